@@ -1,2 +1,5 @@
 pub mod Register
 pub mod Meaning
+pub mod Kind
+pub mod Opcode
+pub mod Same

@@ -1,0 +1,51 @@
+use Rattle.std.specs.Prelude.{◌≡◌, ℕ, ◌+◌, ◌-◌, ◌*◌, ◌≤◌, Bool, false, List, [], ◌∷◌}
+use Rattle.x86_address.specs.Bytes.{bit}
+use Rattle.vex_rows.specs.declared.key.Map.{Map}
+use Rattle.vex_rows.specs.declared.key.Map.TheVariants.{Map0F}
+use Rattle.vex_rows.specs.declared.key.Pp.{Pp}
+use Rattle.vex_rows.specs.Rules.{map_number, pp_number}
+
+-- the fields of a prefix, those that stand inverted in its bytes put right (SDM volume 2, section 2.3.5)
+pub record Fields : Type 0 where
+  pub map : Map
+  pub pp : Pp
+  pub w : Bool
+  pub l : ℕ
+  pub r : ℕ
+  pub x : Bool
+  pub b : Bool
+  pub v : ℕ
+
+-- the form of a prefix: two bytes from C5 on, or three from C4 on
+pub data PrefixForm : Type 0 where
+  C5 : PrefixForm
+  C4 : PrefixForm
+
+-- the last byte of a prefix but for its top bit: v inverted, l and pp
+abbrev pub low_byte : Fields → ℕ
+low_byte f = 8 * (15 - f.v) + 4 * f.l + pp_number f.pp
+
+-- the bytes of a prefix
+abbrev pub prefix_bytes : PrefixForm → Fields → List ℕ
+prefix_bytes C5 f = 197 ∷ (128 * (1 - f.r) + low_byte f) ∷ []
+prefix_bytes C4 f =
+    196 ∷ (128 * (1 - f.r) + 64 * (1 - bit f.x) + 32 * (1 - bit f.b) + map_number f.map) ∷ (128 * bit f.w + low_byte f) ∷ []
+
+-- the fields that a two-byte prefix can't say have their only values
+pub record FitsTwoBytes (f : Fields) : Type 0 where
+  pub map : f.map ≡ Map0F
+  pub w : f.w ≡ false
+  pub x : f.x ≡ false
+  pub b : f.b ≡ false
+
+-- the fields that a form of prefix can't say have their only values
+abbrev pub CanSay : PrefixForm → Fields → Type 0
+CanSay C5 f = FitsTwoBytes f
+CanSay C4 f = Unit {0}
+
+-- the fields fit their bits, and the form of prefix can say them
+pub record IsPrefix (form : PrefixForm) (f : Fields) : Type 0 where
+  pub l : f.l ≤ 1
+  pub r : f.r ≤ 1
+  pub v : f.v ≤ 15
+  pub can_say : CanSay form f

@@ -1,0 +1,83 @@
+use Rattle.std.specs.Prelude.{◌≡◌, ℕ, ◌<◌, Bool, true, false, List, [], ◌∷◌, ◌++◌, Option, Some, None, if◌then◌else◌}
+use Rattle.x86_operand.specs.Meaning.{Meaning}
+use Rattle.x86_address.specs.Place.{Place, place_bytes, IsPlace, kind_of, target}
+use Rattle.vex_rows.specs.Steps.{steps}
+use Rattle.vex_rows.specs.Row.{Row, IsRow}
+use Rattle.vex_forms.specs.declared.slot.VvvvRule.{VvvvRule}
+use Rattle.vex_forms.specs.declared.slot.VvvvRule.TheVariants.{Named, Zero, Free}
+use Rattle.vex_forms.specs.Slots.{v_rule}
+use Rattle.vex_forms.specs.Gives.{gives}
+use Rattle.vex_decode.specs.Fields.{Fields, PrefixForm, prefix_bytes, IsPrefix}
+
+-- the parts of a spelling: the form of its prefix, the prefix fields, the reg field, the place of E, the immediate byte.
+-- A part that isn't written is 0 or no place.
+pub record Syntax : Type 0 where
+  pub form : PrefixForm
+  pub fields : Fields
+  pub reg : ℕ
+  pub place : Place
+  pub imm : ℕ
+
+-- whether a row has an immediate byte
+unfoldable pub has_imm : Row → Bool
+has_imm row = (steps row.entry.form).imm
+
+-- the immediate byte, where there is one
+abbrev pub imm_bytes : Bool → ℕ → List ℕ
+imm_bytes has imm = if has then imm ∷ [] else []
+
+-- the bytes of a spelling: prefix, opcode byte, ModRM with SIB and displacement, immediate
+abbrev pub bytes_of : Row → Syntax → List ℕ
+bytes_of row s = prefix_bytes s.form s.fields ++ row.entry.byte ∷ (place_bytes s.reg s.place ++ imm_bytes (has_imm row) s.imm)
+
+-- what a spelling means
+abbrev pub meant : Row → Syntax → Meaning
+meant row s = gives row s.fields.r s.fields.v s.reg (target s.place s.fields.x s.fields.b) s.imm
+
+-- vvvv is 0 where a step demands it
+abbrev pub FitsRule : VvvvRule → ℕ → Type 0
+FitsRule Named v = Unit {0}
+FitsRule Zero v = v ≡ 0
+FitsRule Free v = Unit {0}
+
+-- the reg field is the group where the row has one
+abbrev pub FitsGroup : Option ℕ → ℕ → Type 0
+FitsGroup None reg = Unit {0}
+FitsGroup (Some group) reg = reg ≡ group
+
+-- the reg field is 0 where there is no ModRM byte
+abbrev pub FitsReg : Bool → ℕ → Type 0
+FitsReg true reg = reg < 8
+FitsReg false reg = reg ≡ 0
+
+-- the immediate byte is 0 where there is none
+abbrev pub FitsImm : Bool → ℕ → Type 0
+FitsImm true imm = imm < 256
+FitsImm false imm = imm ≡ 0
+
+-- the parts are those of a spelling by the row
+pub record IsSyntax (row : Row) (s : Syntax) : Type 0 where
+  pub prefix : IsPrefix s.form s.fields
+  pub map : s.fields.map ≡ row.entry.map
+  pub pp : s.fields.pp ≡ row.entry.pp
+  pub w : s.fields.w ≡ row.w
+  pub l : s.fields.l ≡ row.l
+  pub reg : FitsReg (steps row.entry.form).modrm s.reg
+  pub place : IsPlace s.place
+  pub kind : kind_of s.place ≡ row.kind
+  pub group : FitsGroup row.group s.reg
+  pub v : FitsRule (v_rule row) s.fields.v
+  pub imm : FitsImm (has_imm row) s.imm
+
+-- the bytes spell the meaning by the row: prefix, opcode byte, address bytes and immediate, one after another
+pub record SpellsBy (bytes : List ℕ) (m : Meaning) (row : Row) : Type 0 where
+  pub parts : Syntax
+  pub fits : IsSyntax row parts
+  pub written : bytes ≡ bytes_of row parts
+  pub means : m ≡ meant row parts
+
+-- the bytes spell the meaning by some row
+pub record Spells (bytes : List ℕ) (m : Meaning) : Type 0 where
+  pub row : Row
+  pub is_row : IsRow row
+  pub by : SpellsBy bytes m row

@@ -1,0 +1,179 @@
+use Rattle.std.specs.Prelude.{ℕ, ◌-◌, ◌/◌, ◌%◌, Bool, true, false, ◌==◌, List, [], ◌∷◌, Option, Some, None, Ok, Err, if◌then◌else◌, find}
+use Rattle.x86_operand.specs.declared.error.DecodeError.{DecodeError}
+use Rattle.x86_operand.specs.declared.error.DecodeError.TheVariants.{InvalidOpcode, InvalidOperand, Outside}
+use Rattle.x86_operand.specs.Kind.{Kind, WithoutModRM, InRegister, InMemory}
+use Rattle.x86_address.specs.Reading.{Reading, ◌>>=◌, take_byte, take_place}
+use Rattle.x86_address.specs.Place.{Place, NoPlace, Direct, kind_of}
+use Rattle.vex_rows.specs.declared.entry.Entry.{Entry}
+use Rattle.vex_rows.specs.declared.key.Key.{Key}
+use Rattle.vex_rows.specs.declared.key.Map.{Map}
+use Rattle.vex_rows.specs.declared.key.Map.TheVariants.{Map0F, Map0F38, Map0F3A}
+use Rattle.vex_rows.specs.declared.key.Pp.{Pp}
+use Rattle.vex_rows.specs.declared.key.Pp.TheVariants.{Plain, Prefix66, PrefixF3, PrefixF2}
+use Rattle.vex_rows.specs.Rules.{has_key}
+use Rattle.vex_rows.specs.Table.{table}
+use Rattle.vex_rows.specs.Steps.{Steps, steps, Check, V0, L0, Reg, Mem, Group, VifMem}
+use Rattle.vex_rows.specs.Groups.{groups}
+use Rattle.vex_rows.specs.Row.{Row, has_groups, is_group, is_register, is_memory}
+use Rattle.vex_decode.specs.Fields.{Fields, PrefixForm, C4, C5}
+use Rattle.vex_decode.specs.Spelling.{Syntax}
+
+-- a test that takes nothing
+abbrev pub test : Bool → DecodeError → List ℕ → Reading (Unit {0})
+test holds error bytes = if holds then Ok (tt, bytes) else Err (error, bytes)
+
+-- a bit of a byte that stands inverted
+abbrev pub inverted : ℕ → Bool
+inverted bit = bit == 0
+
+-- the implied prefix of the number pp
+abbrev pub pp_of : ℕ → Pp
+pp_of pp = if pp == 0 then Plain else if pp == 1 then Prefix66 else if pp == 2 then PrefixF3 else PrefixF2
+
+-- the opcode map of a number, which must be 1, 2 or 3
+abbrev pub map_of : ℕ → Option Map
+map_of k = if k == 1 then Some Map0F else if k == 2 then Some Map0F38 else if k == 3 then Some Map0F3A else None
+
+-- the fields of a two-byte prefix
+abbrev pub fields_of_two : ℕ → Fields
+fields_of_two p = record {
+  map = Map0F;
+  pp = pp_of (p % 4);
+  w = false;
+  l = (p / 4) % 2;
+  r = 1 - p / 128;
+  x = false;
+  b = false;
+  v = 15 - (p / 8) % 16;
+}
+
+-- the fields of a three-byte prefix, of this map
+abbrev pub fields_of_three : Map → ℕ → ℕ → Fields
+fields_of_three map p q = record {
+  map = map;
+  pp = pp_of (q % 4);
+  w = q / 128 == 1;
+  l = (q / 4) % 2;
+  r = 1 - p / 128;
+  x = inverted ((p / 64) % 2);
+  b = inverted ((p / 32) % 2);
+  v = 15 - (q / 8) % 16;
+}
+
+-- the fields of a three-byte prefix, whose map number is looked at once both bytes are there
+abbrev pub fields_by_map : Option Map → ℕ → ℕ → List ℕ → Reading Fields
+fields_by_map None p q rest = Err (InvalidOpcode, rest)
+fields_by_map (Some map) p q rest = Ok (fields_of_three map p q, rest)
+
+-- the bytes of a prefix after its first
+abbrev pub read_fields : PrefixForm → List ℕ → Reading Fields
+read_fields C5 bytes = do
+  p ← take_byte bytes
+  Ok (fields_of_two p.0, p.1)
+read_fields C4 bytes = do
+  p ← take_byte bytes
+  q ← take_byte p.1
+  fields_by_map (map_of (p.0 % 32)) p.0 q.0 q.1
+
+-- the first byte says the form of the prefix
+abbrev pub form_of : ℕ → List ℕ → Reading PrefixForm
+form_of first rest = if first == 197 then Ok (C5, rest) else if first == 196 then Ok (C4, rest) else Err (Outside, rest)
+
+-- the key that prefix and opcode byte make
+abbrev pub key_of : Fields → ℕ → Key
+key_of f byte = record { map = f.map; pp = f.pp; byte = byte; w = f.w; l = f.l == 1 }
+
+-- the entry of a key, the only one
+unfoldable pub entry_of : Key → Option Entry
+entry_of key = find (λ entry. has_key entry key) table
+
+abbrev pub found : Option Entry → List ℕ → Reading Entry
+found None rest = Err (InvalidOpcode, rest)
+found (Some entry) rest = Ok (entry, rest)
+
+-- a check of a form, by the prefix fields, the kind of operand E and the reg field
+abbrev pub check : Entry → Fields → Kind → ℕ → Check → List ℕ → Reading (Unit {0})
+check entry f kind reg V0 bytes = test (f.v == 0) InvalidOperand bytes
+check entry f kind reg L0 bytes = test (f.l == 0) InvalidOperand bytes
+check entry f kind reg Reg bytes = test (is_register kind) InvalidOperand bytes
+check entry f kind reg Mem bytes = test (is_memory kind) InvalidOperand bytes
+check entry f kind reg Group bytes = test (is_group (groups entry.form f.l) reg) InvalidOpcode bytes
+check entry f kind reg VifMem bytes = test (if is_memory kind then f.v == 0 else true) InvalidOperand bytes
+
+-- checks, one after another
+abbrev pub check_all : Entry → Fields → Kind → ℕ → List Check → List ℕ → Reading (Unit {0})
+check_all entry f kind reg [] bytes = Ok (tt, bytes)
+check_all entry f kind reg (c ∷ cs) bytes = do
+  passed ← check entry f kind reg c bytes
+  check_all entry f kind reg cs passed.1
+
+-- the kind of operand that the field mod says
+abbrev pub kind_of_mod : ℕ → Kind
+kind_of_mod mode = if mode == 3 then InRegister else InMemory
+
+-- the immediate byte, or 0 where there is none
+abbrev pub take_imm : Bool → List ℕ → Reading ℕ
+take_imm has bytes = if has then take_byte bytes else Ok (0, bytes)
+
+-- what a form reads: the reg field, the place of E and the immediate byte
+pub record Operands : Type 0 where
+  pub reg : ℕ
+  pub place : Place
+  pub imm : ℕ
+
+-- the place of a form: a form without an address has checked that the operand is a register
+abbrev pub place_by : Bool → ℕ → ℕ → List ℕ → Reading Place
+place_by address mode rm bytes = if address then take_place mode rm bytes else Ok (Direct rm, bytes)
+
+-- the steps of a form from ModRM on
+abbrev pub walk_modrm : Entry → Fields → Steps → List ℕ → Reading Operands
+walk_modrm entry f form bytes = do
+  modrm ← take_byte bytes
+  second ← check_all entry f (kind_of_mod (modrm.0 / 64)) ((modrm.0 / 8) % 8) form.second modrm.1
+  place ← place_by form.address (modrm.0 / 64) (modrm.0 % 8) second.1
+  third ← check_all entry f (kind_of_mod (modrm.0 / 64)) ((modrm.0 / 8) % 8) form.third place.1
+  imm ← take_imm form.imm third.1
+  Ok (record { reg = (modrm.0 / 8) % 8; place = place.0; imm = imm.0 }, imm.1)
+
+-- the steps of a form without ModRM
+abbrev pub walk_alone : Steps → List ℕ → Reading Operands
+walk_alone form bytes = do
+  imm ← take_imm form.imm bytes
+  Ok (record { reg = 0; place = NoPlace; imm = imm.0 }, imm.1)
+
+-- the steps of an entry's form, over the bytes after the opcode byte
+unfoldable pub walk_form : Entry → Fields → List ℕ → Reading Operands
+walk_form entry f bytes = do
+  first ← check_all entry f WithoutModRM 0 (steps entry.form).first bytes
+  if (steps entry.form).modrm then walk_modrm entry f (steps entry.form) first.1 else walk_alone (steps entry.form) first.1
+
+-- the row that an entry, the prefix fields, the reg field and the place choose
+abbrev pub row_of : Entry → Fields → Operands → Row
+row_of entry f operands = record {
+  entry = entry;
+  w = f.w;
+  l = f.l;
+  kind = kind_of operands.place;
+  group = if has_groups entry.form then Some operands.reg else None;
+}
+
+-- the parts of a spelling that were read
+abbrev pub syntax_of : PrefixForm → Fields → Operands → Syntax
+syntax_of form f operands = record {
+  form = form;
+  fields = f;
+  reg = operands.reg;
+  place = operands.place;
+  imm = operands.imm;
+}
+
+-- all steps in order, but for the settings: first byte, prefix, opcode byte, entry, and the steps of its form
+unfoldable pub walk : List ℕ → Reading (Row × Syntax)
+walk bytes = do
+  first ← take_byte bytes
+  form ← form_of first.0 first.1
+  fields ← read_fields form.0 form.1
+  byte ← take_byte fields.1
+  entry ← found (entry_of (key_of fields.0 byte.0)) byte.1
+  operands ← walk_form entry.0 fields.0 entry.1
+  Ok ((row_of entry.0 fields.0 operands.0, syntax_of form.0 fields.0 operands.0), operands.1)

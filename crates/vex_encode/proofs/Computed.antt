@@ -1,0 +1,70 @@
+use Rattle.std.specs.Prelude.{◌≡◌, refl, [], ◌∷◌, Some, None, false, pos}
+use Rattle.x86_opcode.specs.declared.Opcode.TheVariants.{Float}
+use Rattle.x86_opcode.specs.declared.FloatOpcode.TheVariants.{VMOVAPS}
+use Rattle.x86_operand.specs.declared.error.DecodeError.TheVariants.{ExhaustedInput, InvalidOpcode, InvalidOperand, Outside}
+use Rattle.x86_operand.specs.declared.register.RegisterBank.TheVariants.{X}
+use Rattle.x86_operand.specs.Meaning.{register, Meaning}
+use Rattle.x86_operand.specs.Opcode.{same_opcode}
+use Rattle.x86_operand.specs.Same.{same_meaning, same_operands, same_operand, same_register, same_bank}
+use Rattle.x86_address.specs.Place.{At, Numbered, Based}
+use Rattle.x86_address.specs.Bytes.{Absent, Short}
+use Rattle.x86_address.specs.Shortest.{shortest}
+use Rattle.vex_rows.specs.Rules.{has_key}
+use Rattle.vex_rows.specs.Steps.{steps}
+use Rattle.vex_rows.specs.Groups.{groups}
+use Rattle.vex_rows.specs.Table.{table}
+use Rattle.vex_rows.specs.Row.{rows, choices, exists, has_groups, opcode_of}
+use Rattle.vex_forms.specs.Slots.{slots, index_bank, size_of, v_rule}
+use Rattle.vex_forms.specs.Gives.{gives}
+use Rattle.vex_decode.specs.Spelling.{has_imm}
+use Rattle.vex_decode.specs.Walk.{walk, walk_form, entry_of}
+use Rattle.vex_decode.specs.Blocked.{fails}
+use Rattle.vex_encode.specs.Standard.{standard, candidate}
+use Rattle.vex_encode.specs.Canon.{canon}
+
+abbrev moves : Meaning
+moves = record { evex = false; opcode = Float VMOVAPS; operands = register (record { bank = X; num = 0 }) ∷ register (record { bank = X; num = 8 }) ∷ []; size = None }
+
+canon_moves : canon moves ≡ Some (0xC5 ∷ 0x78 ∷ 0x29 ∷ 0xC0 ∷ [])
+unfolding canon rows choices exists has_groups table steps groups standard candidate shortest slots index_bank size_of v_rule gives opcode_of has_imm same_meaning same_operands same_operand same_register same_bank same_opcode
+canon_moves = refl
+
+fails_one : fails [] ≡ Some (ExhaustedInput, 0)
+unfolding walk
+fails_one = refl
+
+fails_two : fails (0x33 ∷ 0xC0 ∷ []) ≡ Some (Outside, 1)
+unfolding walk
+fails_two = refl
+
+fails_three : fails (0xC4 ∷ 0 ∷ []) ≡ Some (ExhaustedInput, 2)
+unfolding walk
+fails_three = refl
+
+fails_four : fails (0xC4 ∷ 0xE0 ∷ 0x78 ∷ 0x58 ∷ 0xC0 ∷ []) ≡ Some (InvalidOpcode, 3)
+unfolding walk
+fails_four = refl
+
+fails_five : fails (0xC4 ∷ 0xE3 ∷ 0x78 ∷ 0x0F ∷ 0xC0 ∷ 0 ∷ []) ≡ Some (InvalidOpcode, 4)
+unfolding walk entry_of has_key table
+fails_five = refl
+
+fails_six : fails (0xC5 ∷ 0xF8 ∷ 0x28 ∷ 0 ∷ []) ≡ Some (InvalidOperand, 4)
+unfolding walk walk_form entry_of has_key table steps groups
+fails_six = refl
+
+fails_seven : fails (0xC5 ∷ 0xF0 ∷ 0x28 ∷ []) ≡ Some (InvalidOperand, 3)
+unfolding walk walk_form entry_of has_key table steps groups
+fails_seven = refl
+
+begins : fails (0xC4 ∷ 0xC1 ∷ 0x78 ∷ 0x28 ∷ 0xC0 ∷ 1 ∷ []) ≡ None
+unfolding walk walk_form entry_of has_key table steps groups
+begins = refl
+
+place_seven : shortest (At (record { base = Numbered 0; index = None; disp = pos 0 })) ≡ Based 0 Absent
+unfolding shortest
+place_seven = refl
+
+place_eight : shortest (At (record { base = Numbered 5; index = None; disp = pos 0 })) ≡ Based 5 (Short 0)
+unfolding shortest
+place_eight = refl

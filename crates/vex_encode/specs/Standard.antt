@@ -1,0 +1,110 @@
+use Rattle.std.specs.Prelude.{ℕ, ◌*◌, ◌/◌, ◌%◌, Bool, true, false, not, ◌&&◌, ◌==◌, List, [], ◌∷◌, Option, Some, None, if◌then◌else◌}
+use Rattle.std.specs.Int.{cast_unsigned, w8}
+use Rattle.x86_operand.specs.Kind.{Kind, WithoutModRM, InRegister, InMemory}
+use Rattle.x86_operand.specs.Meaning.{OperandMeaning, register, signed, unsigned, memory, nothing, Meaning}
+use Rattle.x86_operand.specs.Same.{same_meaning}
+use Rattle.x86_address.specs.Place.{Target, NoTarget, Number, At}
+use Rattle.x86_address.specs.Shortest.{shortest, plain, x_of, b_of}
+use Rattle.vex_rows.specs.Rules.{map_number}
+use Rattle.vex_rows.specs.Row.{Row}
+use Rattle.vex_forms.specs.declared.slot.Slot.{Slot}
+use Rattle.vex_forms.specs.declared.slot.Slot.TheVariants.{G, V, E, U8, I8, R4}
+use Rattle.vex_forms.specs.Slots.{slots}
+use Rattle.vex_decode.specs.Fields.{Fields, PrefixForm, C4, C5}
+use Rattle.vex_decode.specs.Spelling.{Syntax, bytes_of, meant}
+
+-- which slot a slot is
+abbrev pub is_g : Slot → Bool
+is_g (G bank) = true
+is_g _ = false
+
+abbrev pub is_v : Slot → Bool
+is_v (V bank) = true
+is_v _ = false
+
+abbrev pub is_e : Slot → Bool
+is_e (E bank) = true
+is_e _ = false
+
+abbrev pub is_immediate : Slot → Bool
+is_immediate U8 = true
+is_immediate I8 = true
+is_immediate (R4 bank) = true
+is_immediate _ = false
+
+-- the operand at the first slot of a kind, nothing where there is none
+abbrev pub operand_at : (Slot → Bool) → List Slot → List OperandMeaning → OperandMeaning
+operand_at is [] operands = nothing
+operand_at is (slot ∷ slots) [] = nothing
+operand_at is (slot ∷ slots) (operand ∷ operands) = if is slot then operand else operand_at is slots operands
+
+-- the number of a register, 0 of all else
+abbrev pub number_of : OperandMeaning → ℕ
+number_of (register reg) = reg.num
+number_of (signed imm) = 0
+number_of (unsigned imm) = 0
+number_of (memory address) = 0
+number_of nothing = 0
+
+-- the immediate byte of an operand: its low eight bits, or 16 times a register's number
+abbrev pub imm_of : OperandMeaning → ℕ
+imm_of (register reg) = (16 * reg.num) % 256
+imm_of (signed imm) = cast_unsigned w8 imm % 256
+imm_of (unsigned imm) = imm % 256
+imm_of (memory address) = 0
+imm_of nothing = 0
+
+-- what an operand asks of the place of E in a row of this kind
+abbrev pub target_of : Kind → OperandMeaning → Target
+target_of WithoutModRM operand = NoTarget
+target_of InRegister operand = Number (number_of operand)
+target_of InMemory (memory address) = At (plain address)
+target_of InMemory _ = Number 0
+
+-- whether the two-byte prefix can say the fields: map 0F, and W, X and B are 0
+abbrev pub fits_two_bytes : Fields → Bool
+fits_two_bytes f = map_number f.map == 1 && not f.w && not f.x && not f.b
+
+abbrev pub shortest_form : Fields → PrefixForm
+shortest_form f = if fits_two_bytes f then C5 else C4
+
+-- the fields of the prefix: map, implied prefix, W and L are the row's, and R, X, B and vvvv are what the operands demand
+abbrev pub fields_for : Row → ℕ → ℕ → Target → Fields
+fields_for row g v e = record {
+  map = row.entry.map;
+  pp = row.entry.pp;
+  w = row.w;
+  l = row.l;
+  r = (g / 8) % 2;
+  x = x_of e;
+  b = b_of e;
+  v = v % 16;
+}
+
+-- the reg field: the row's group, or what the slot G demands
+abbrev pub reg_for : Option ℕ → ℕ → ℕ
+reg_for None g = g % 8
+reg_for (Some group) g = group
+
+-- the parts of the standard spelling of operands by a row
+abbrev pub assembled : Row → ℕ → ℕ → Target → ℕ → Syntax
+assembled row g v e imm = record {
+  form = shortest_form (fields_for row g v e);
+  fields = fields_for row g v e;
+  reg = reg_for row.group g;
+  place = shortest e;
+  imm = imm;
+}
+
+-- the parts of the standard spelling of a meaning by a row, which spell it where anything of the row does
+unfoldable pub candidate : Row → Meaning → Syntax
+candidate row m =
+    assembled row
+    (number_of (operand_at is_g (slots row) m.operands))
+    (number_of (operand_at is_v (slots row) m.operands))
+    (target_of row.kind (operand_at is_e (slots row) m.operands))
+    (imm_of (operand_at is_immediate (slots row) m.operands))
+
+-- the standard bytes of a meaning by a row; none where the row can't give it
+unfoldable pub standard : Row → Meaning → Option (List ℕ)
+standard row m = if same_meaning (meant row (candidate row m)) m then Some (bytes_of row (candidate row m)) else None

@@ -1,0 +1,2 @@
+//! The shortest spelling of an instruction.
+#![tactic(auto)]

@@ -1,0 +1,5 @@
+pub mod Steps
+pub mod Rules
+pub mod Table
+pub mod Groups
+pub mod Row

@@ -1,0 +1,109 @@
+use Rattle.std.specs.Prelude.{◌≡◌, ◌⊎◌, ℕ, Bool, true, false, ◌&&◌, ◌||◌, ◌==◌, List, [], ◌∷◌, ◌++◌, map, filter, flat_map, Option, Some, None, if◌then◌else◌}
+use Rattle.std.specs.List.{list_all, list_any}
+use Rattle.x86_opcode.specs.declared.Opcode.{Opcode}
+use Rattle.x86_operand.specs.Kind.{Kind, WithoutModRM, InRegister, InMemory}
+use Rattle.vex_rows.specs.declared.entry.Entry.{Entry}
+use Rattle.vex_rows.specs.declared.form.Form.{Form}
+use Rattle.vex_rows.specs.Rules.{allows}
+use Rattle.vex_rows.specs.Steps.{steps, Check, V0, L0, Reg, Mem, Group, VifMem}
+use Rattle.vex_rows.specs.Groups.{groups}
+use Rattle.vex_rows.specs.Table.{table}
+
+-- an entry at one W, one L, one kind of operand E, and one reg field where its form has groups
+pub record Row : Type 0 where
+  pub entry : Entry
+  pub w : Bool
+  pub l : ℕ
+  pub kind : Kind
+  pub group : Option ℕ
+
+-- whether a kind is that of a form without ModRM, of a register, of memory
+abbrev pub is_without_modrm : Kind → Bool
+is_without_modrm WithoutModRM = true
+is_without_modrm InRegister = false
+is_without_modrm InMemory = false
+
+abbrev pub is_register : Kind → Bool
+is_register WithoutModRM = false
+is_register InRegister = true
+is_register InMemory = false
+
+abbrev pub is_memory : Kind → Bool
+is_memory WithoutModRM = false
+is_memory InRegister = false
+is_memory InMemory = true
+
+-- whether a check is that of the reg field
+abbrev pub is_group_check : Check → Bool
+is_group_check Group = true
+is_group_check _ = false
+
+-- whether a form has groups
+unfoldable pub has_groups : Form → Bool
+has_groups form = list_any is_group_check (steps form).second
+
+-- the opcode of a reg field among groups
+abbrev pub group_opcode : List (ℕ × Opcode) → ℕ → Option Opcode
+group_opcode [] reg = None
+group_opcode (g ∷ gs) reg = if g.0 == reg then Some g.1 else group_opcode gs reg
+
+-- whether a reg field is one of the groups
+abbrev pub is_group : List (ℕ × Opcode) → ℕ → Bool
+is_group [] reg = false
+is_group (g ∷ gs) reg = g.0 == reg || is_group gs reg
+
+-- whether a row's group field is one that its form allows, none where it has no groups
+abbrev pub group_allowed : Form → ℕ → Option ℕ → Bool
+group_allowed form l None = true
+group_allowed form l (Some reg) = is_group (groups form l) reg
+
+-- whether a check refuses no spelling of the row for its kind, L or group alone
+abbrev pub permits_choice : Row → Check → Bool
+permits_choice row V0 = true
+permits_choice row L0 = row.l == 0
+permits_choice row Reg = is_register row.kind
+permits_choice row Mem = is_memory row.kind
+permits_choice row Group = group_allowed row.entry.form row.l row.group
+permits_choice row VifMem = true
+
+-- the opcode of a row: that of its group or its kind where these decide, else the one that its entry announces
+unfoldable pub opcode_of : Row → Opcode
+opcode_of row = row.entry.opcode
+
+-- whether a row exists: no rule and no check of its entry refuses its W, L, kind and group
+unfoldable pub exists : Row → Bool
+exists row =
+    allows row.entry.w row.w && allows row.entry.l (row.l == 1)
+    && list_all (permits_choice row) ((steps row.entry.form).first ++ (steps row.entry.form).second ++ (steps row.entry.form).third)
+
+-- the kinds that a form may have
+abbrev pub kinds_of : Form → List Kind
+kinds_of form = if (steps form).modrm then InRegister ∷ InMemory ∷ [] else WithoutModRM ∷ []
+
+-- the group fields that a form may have at an L
+abbrev pub group_choices : Form → ℕ → List (Option ℕ)
+group_choices form l = if has_groups form then map (λ g. Some g.0) (groups form l) else None ∷ []
+
+-- all choices of an entry: by W, then L, then kind, then group
+unfoldable pub choices : Entry → List Row
+choices entry =
+    flat_map
+    (λ w. flat_map
+    (λ l. flat_map
+    (λ kind. map (λ group. record { entry = entry; w = w; l = l; kind = kind; group = group }) (group_choices entry.form l))
+    (kinds_of entry.form))
+    (0 ∷ 1 ∷ []))
+    (false ∷ true ∷ [])
+
+-- all rows, in table order
+unfoldable pub rows : List Row
+rows = filter exists (flat_map choices table)
+
+-- x stands in the list
+abbrev pub Among : {A : Type 0} → A → List A → Type 0
+Among x [] = ⊥
+Among x (y ∷ ys) = (x ≡ y) ⊎ Among x ys
+
+-- a row that is one of them
+unfoldable pub IsRow : Row → Type 0
+IsRow row = Among row rows

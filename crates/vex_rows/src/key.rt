@@ -1,0 +1,49 @@
+//! What a VEX prefix says, and the part of it that chooses an entry.
+
+/// An opcode map, named by its legacy escape bytes (Intel SDM volume 2, section 2.3.6.1).
+#[derive(Clone, Copy, PartialEq, Eq, Debug)]
+pub enum Map {
+    /// The map of the two-byte opcodes.
+    Map0F,
+    /// The first map of the three-byte opcodes.
+    Map0F38,
+    /// The second map of the three-byte opcodes.
+    Map0F3A,
+}
+
+/// The legacy prefix that the field pp stands for (Intel SDM volume 2, section 2.3.5.5).
+#[derive(Clone, Copy, PartialEq, Eq, Debug)]
+pub enum Pp {
+    /// No prefix.
+    Plain,
+    /// The prefix 66.
+    Prefix66,
+    /// The prefix F3.
+    PrefixF3,
+    /// The prefix F2.
+    PrefixF2,
+}
+
+/// What chooses an entry: opcode map, implied prefix, opcode byte, W and L.
+#[derive(Clone, Copy, PartialEq, Eq, Debug)]
+pub struct Key {
+    pub map: Map,
+    pub pp: Pp,
+    pub byte: u8,
+    pub w: bool,
+    pub l: bool,
+}
+
+/// The fields of a VEX prefix, those that stand inverted in its bytes put right (Intel SDM volume 2, section 2.3.5).
+/// `vvvv` is a register number from 0 to 15.
+#[derive(Clone, Copy, PartialEq, Eq, Debug)]
+pub struct Prefix {
+    pub map: Map,
+    pub pp: Pp,
+    pub w: bool,
+    pub l: bool,
+    pub r: bool,
+    pub x: bool,
+    pub b: bool,
+    pub vvvv: u8,
+}

@@ -1,0 +1,28 @@
+//! The entries in table order: by map, implied prefix, byte, W rule and L rule.
+
+use crate::entry::{Entry, Rule};
+use crate::form::Form;
+use crate::key::{Map, Pp};
+use x86_operand::Opcode;
+
+/// All entries.
+pub static TABLE: [Entry; 2] = [
+    Entry {
+        map: Map::Map0F,
+        pp: Pp::Plain,
+        byte: 0x28,
+        w: Rule::Any,
+        l: Rule::Any,
+        form: Form::G_E_xyLmm,
+        opcode: Opcode::VMOVAPS,
+    },
+    Entry {
+        map: Map::Map0F,
+        pp: Pp::Plain,
+        byte: 0x29,
+        w: Rule::Any,
+        l: Rule::Any,
+        form: Form::E_G_xyLmm,
+        opcode: Opcode::VMOVAPS,
+    },
+];

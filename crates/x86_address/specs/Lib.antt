@@ -1,0 +1,4 @@
+pub mod Bytes
+pub mod Place
+pub mod Shortest
+pub mod Reading

@@ -1,0 +1,2 @@
+//! Which opcodes a set of settings permits.
+#![tactic(auto)]
