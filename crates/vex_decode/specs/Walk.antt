@@ -18,10 +18,6 @@ use Rattle.vex_rows.specs.Row.{Row, has_groups, is_group, is_register, is_memory
 use Rattle.vex_decode.specs.Fields.{Fields, PrefixForm, C4, C5}
 use Rattle.vex_decode.specs.Spelling.{Syntax}
 
--- a test that takes nothing
-abbrev pub test : Bool → DecodeError → List ℕ → Reading (Unit {0})
-test holds error bytes = if holds then Ok (tt, bytes) else Err (error, bytes)
-
 -- a bit of a byte that stands inverted
 abbrev pub inverted : ℕ → Bool
 inverted bit = bit == 0
@@ -79,6 +75,14 @@ read_fields C4 bytes = do
 abbrev pub form_of : ℕ → List ℕ → Reading PrefixForm
 form_of first rest = if first == 197 then Ok (C5, rest) else if first == 196 then Ok (C4, rest) else Err (Outside, rest)
 
+-- the prefix: its first byte says its form
+abbrev pub read_prefix : List ℕ → Reading (PrefixForm × Fields)
+read_prefix bytes = do
+  first ← take_byte bytes
+  form ← form_of first.0 first.1
+  fields ← read_fields form.0 form.1
+  Ok ((form.0, fields.0), fields.1)
+
 -- the key that prefix and opcode byte make
 abbrev pub key_of : Fields → ℕ → Key
 key_of f byte = record { map = f.map; pp = f.pp; byte = byte; w = f.w; l = f.l == 1 }
@@ -91,21 +95,25 @@ abbrev pub found : Option Entry → List ℕ → Reading Entry
 found None rest = Err (InvalidOpcode, rest)
 found (Some entry) rest = Ok (entry, rest)
 
--- a check of a form, by the prefix fields, the kind of operand E and the reg field
-abbrev pub check : Entry → Fields → Kind → ℕ → Check → List ℕ → Reading (Unit {0})
-check entry f kind reg V0 bytes = test (f.v == 0) InvalidOperand bytes
-check entry f kind reg L0 bytes = test (f.l == 0) InvalidOperand bytes
-check entry f kind reg Reg bytes = test (is_register kind) InvalidOperand bytes
-check entry f kind reg Mem bytes = test (is_memory kind) InvalidOperand bytes
-check entry f kind reg Group bytes = test (is_group (groups entry.form f.l) reg) InvalidOpcode bytes
-check entry f kind reg VifMem bytes = test (if is_memory kind then f.v == 0 else true) InvalidOperand bytes
+-- whether a check passes, by the prefix fields, the kind of operand E and the reg field
+abbrev pub passes : Entry → Fields → Kind → ℕ → Check → Bool
+passes entry f kind reg V0 = f.v == 0
+passes entry f kind reg L0 = f.l == 0
+passes entry f kind reg Reg = is_register kind
+passes entry f kind reg Mem = is_memory kind
+passes entry f kind reg Group = is_group (groups entry.form f.l) reg
+passes entry f kind reg VifMem = if is_memory kind then f.v == 0 else true
+
+-- the error of a check
+abbrev pub refusal : Check → DecodeError
+refusal Group = InvalidOpcode
+refusal _ = InvalidOperand
 
 -- checks, one after another
 abbrev pub check_all : Entry → Fields → Kind → ℕ → List Check → List ℕ → Reading (Unit {0})
 check_all entry f kind reg [] bytes = Ok (tt, bytes)
-check_all entry f kind reg (c ∷ cs) bytes = do
-  passed ← check entry f kind reg c bytes
-  check_all entry f kind reg cs passed.1
+check_all entry f kind reg (c ∷ cs) bytes =
+  if passes entry f kind reg c then check_all entry f kind reg cs bytes else Err (refusal c, bytes)
 
 -- the kind of operand that the field mod says
 abbrev pub kind_of_mod : ℕ → Kind
@@ -167,13 +175,11 @@ syntax_of form f operands = record {
   imm = operands.imm;
 }
 
--- all steps in order, but for the settings: first byte, prefix, opcode byte, entry, and the steps of its form
+-- all steps in order, but for the settings: prefix, opcode byte, entry, and the steps of its form
 unfoldable pub walk : List ℕ → Reading (Row × Syntax)
 walk bytes = do
-  first ← take_byte bytes
-  form ← form_of first.0 first.1
-  fields ← read_fields form.0 form.1
-  byte ← take_byte fields.1
-  entry ← found (entry_of (key_of fields.0 byte.0)) byte.1
-  operands ← walk_form entry.0 fields.0 entry.1
-  Ok ((row_of entry.0 fields.0 operands.0, syntax_of form.0 fields.0 operands.0), operands.1)
+  prefix ← read_prefix bytes
+  byte ← take_byte prefix.1
+  entry ← found (entry_of (key_of prefix.0.1 byte.0)) byte.1
+  operands ← walk_form entry.0 prefix.0.1 entry.1
+  Ok ((row_of entry.0 prefix.0.1 operands.0, syntax_of prefix.0.0 prefix.0.1 operands.0), operands.1)
