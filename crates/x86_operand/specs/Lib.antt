@@ -1,2 +1,4 @@
 pub mod Register
 pub mod Meaning
+pub mod Opcode
+pub mod Same
