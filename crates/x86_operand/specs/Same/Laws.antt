@@ -93,6 +93,27 @@ option_itself : {K : Type 0} (test : K → K → Bool) → ((x : K) → test x x
 option_itself test itself None = refl
 option_itself test itself (Some x) = itself x
 
+pub same_base-equal : (a b : Option Register) → option_eq same_register a b ≡ true → a ≡ b
+same_base-equal = option_equal same_register same_register-equal
+
+pub same_base-of_equal : (a b : Option Register) → a ≡ b → option_eq same_register a b ≡ true
+same_base-of_equal a b e = subst (λ z. option_eq same_register a z ≡ true) e (option_itself same_register same_register-itself a)
+
+pub same_register-of_equal : (a b : Register) → a ≡ b → same_register a b ≡ true
+same_register-of_equal a b e = subst (λ z. same_register a z ≡ true) e (same_register-itself a)
+
+pub same_indexed-equal : (a b : Option Index) → option_eq same_index a b ≡ true → a ≡ b
+same_indexed-equal = option_equal same_index same_index-equal
+
+pub same_indexed-of_equal : (a b : Option Index) → a ≡ b → option_eq same_index a b ≡ true
+same_indexed-of_equal a b e = subst (λ z. option_eq same_index a z ≡ true) e (option_itself same_index same_index-itself a)
+
+-- an address has these parts alone
+pub same_parts : (a b : Address) → a.base ≡ b.base → a.index ≡ b.index → a.disp ≡ b.disp → a ≡ b
+same_parts a b base index disp = λ i. record { base = base i; index = index i; disp = disp i }
+
+pub ruleset parts = (same_register-equal, same_register-of_equal, same_base-equal, same_base-of_equal, same_indexed-equal, same_indexed-of_equal, same_parts)
+
 pub same_address-equal : (a b : Address) → same_address a b ≡ true → a ≡ b
 unfolding same_address
 same_address-equal a b h =
