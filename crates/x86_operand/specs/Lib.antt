@@ -1,6 +1,7 @@
 pub mod Register
 pub mod Meaning
-pub mod Opcode
 pub mod Same
 pub mod Size
 pub mod Errors
+pub use Rattle.x86_opcode.specs.Name
+pub use Rattle.x86_opcode.specs.Number

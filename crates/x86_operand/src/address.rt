@@ -40,11 +40,11 @@ pub enum Operand {
 impl PartialEq for Index {
     ghost use Rattle.std.specs.Cmp.{decided, partial_equiv_from_equiv};
     ghost use Rattle.x86_operand.specs.Same.{same_index};
-    ghost use Rattle.x86_operand.specs.Same.Laws.{same_index-decides};
+    ghost use Rattle.x86_operand.specs.Same.Laws.{same_index_decides};
 
     ghost eq = { same_index };
 
-    ghost laws = { partial_equiv_from_equiv (decided same_index same_index-decides) };
+    ghost laws = { partial_equiv_from_equiv (decided same_index same_index_decides) };
 
     fn eq(&self, other: &Index) -> bool
         ensures same { IsTrue result ↔ (self.now ≡ other.now) }
@@ -56,20 +56,20 @@ impl PartialEq for Index {
 impl Eq for Index {
     ghost use Rattle.std.specs.Cmp.{decided};
     ghost use Rattle.x86_operand.specs.Same.{same_index};
-    ghost use Rattle.x86_operand.specs.Same.Laws.{same_index-decides};
+    ghost use Rattle.x86_operand.specs.Same.Laws.{same_index_decides};
 
-    ghost laws = { decided same_index same_index-decides };
+    ghost laws = { decided same_index same_index_decides };
 }
 
 /// Two addresses are equal where base, index and displacement are, whatever their sums.
 impl PartialEq for Address {
     ghost use Rattle.std.specs.Cmp.{decided, partial_equiv_from_equiv};
     ghost use Rattle.x86_operand.specs.Same.{same_address};
-    ghost use Rattle.x86_operand.specs.Same.Laws.{same_address-decides};
+    ghost use Rattle.x86_operand.specs.Same.Laws.{same_address_decides};
 
     ghost eq = { same_address };
 
-    ghost laws = { partial_equiv_from_equiv (decided same_address same_address-decides) };
+    ghost laws = { partial_equiv_from_equiv (decided same_address same_address_decides) };
 
     #[tactic(auto, using(crate::specs::Same::Laws::parts))]
     fn eq(&self, other: &Address) -> bool
@@ -82,9 +82,9 @@ impl PartialEq for Address {
 impl Eq for Address {
     ghost use Rattle.std.specs.Cmp.{decided};
     ghost use Rattle.x86_operand.specs.Same.{same_address};
-    ghost use Rattle.x86_operand.specs.Same.Laws.{same_address-decides};
+    ghost use Rattle.x86_operand.specs.Same.Laws.{same_address_decides};
 
-    ghost laws = { decided same_address same_address-decides };
+    ghost laws = { decided same_address same_address_decides };
 }
 
 impl Operand {
@@ -114,11 +114,11 @@ impl PartialEq for Operand {
     ghost use Rattle.std.specs.Ordering.{on};
     ghost use Rattle.x86_operand.specs.Meaning.{operand_meaning};
     ghost use Rattle.x86_operand.specs.Same.{same_operand};
-    ghost use Rattle.x86_operand.specs.Same.Laws.{same_operand-decides};
+    ghost use Rattle.x86_operand.specs.Same.Laws.{same_operand_decides};
 
     ghost eq = { on operand_meaning same_operand };
 
-    ghost laws = { partial_equiv_from_equiv (on_equiv operand_meaning (decided same_operand same_operand-decides)) };
+    ghost laws = { partial_equiv_from_equiv (on_equiv operand_meaning (decided same_operand same_operand_decides)) };
 
     #[tactic(auto, using(crate::specs::Same::Laws::parts))]
     fn eq(&self, other: &Operand) -> bool
@@ -141,7 +141,7 @@ impl Eq for Operand {
     ghost use Rattle.std.specs.Cmp.{decided, on_equiv};
     ghost use Rattle.x86_operand.specs.Meaning.{operand_meaning};
     ghost use Rattle.x86_operand.specs.Same.{same_operand};
-    ghost use Rattle.x86_operand.specs.Same.Laws.{same_operand-decides};
+    ghost use Rattle.x86_operand.specs.Same.Laws.{same_operand_decides};
 
-    ghost laws = { on_equiv operand_meaning (decided same_operand same_operand-decides) };
+    ghost laws = { on_equiv operand_meaning (decided same_operand same_operand_decides) };
 }

@@ -120,11 +120,11 @@ impl RegSpec {
 impl PartialEq for RegSpec {
     ghost use Rattle.std.specs.Cmp.{decided, partial_equiv_from_equiv};
     ghost use Rattle.x86_operand.specs.Same.{same_register};
-    ghost use Rattle.x86_operand.specs.Same.Laws.{same_register-decides};
+    ghost use Rattle.x86_operand.specs.Same.Laws.{same_register_decides};
 
     ghost eq = { same_register };
 
-    ghost laws = { partial_equiv_from_equiv (decided same_register same_register-decides) };
+    ghost laws = { partial_equiv_from_equiv (decided same_register same_register_decides) };
 
     fn eq(&self, other: &RegSpec) -> bool
         ensures same { IsTrue result ↔ (self.now ≡ other.now) }
@@ -136,7 +136,7 @@ impl PartialEq for RegSpec {
 impl Eq for RegSpec {
     ghost use Rattle.std.specs.Cmp.{decided};
     ghost use Rattle.x86_operand.specs.Same.{same_register};
-    ghost use Rattle.x86_operand.specs.Same.Laws.{same_register-decides};
+    ghost use Rattle.x86_operand.specs.Same.Laws.{same_register_decides};
 
-    ghost laws = { decided same_register same_register-decides };
+    ghost laws = { decided same_register same_register_decides };
 }
