@@ -1,5 +1,8 @@
 pub mod Register
 pub mod Meaning
-pub mod Kind
-pub mod Opcode
 pub mod Same
+pub mod Size
+pub mod Errors
+pub use Rattle.x86_opcode.specs.Name
+pub use Rattle.x86_opcode.specs.Number
+pub mod Kind

@@ -37,3 +37,8 @@ pub record Meaning : Type 0 where
 pub record Decoded : Type 0 where
   pub meaning : Meaning
   pub len : ℕ
+
+-- the address that a memory operand means
+abbrev pub address_of : OperandMeaning → Option Address
+address_of (memory address) = Some address
+address_of _ = None

@@ -9,7 +9,7 @@ use Rattle.x86_operand.specs.declared.register.RegisterBank.{RegisterBank}
 use Rattle.x86_operand.specs.declared.register.RegisterBank.TheVariants.{Q, D, X, Y, Z, RIP}
 use Rattle.x86_operand.specs.declared.address.Address.{Address}
 use Rattle.x86_operand.specs.declared.address.Index.{Index}
-use Rattle.x86_operand.specs.Opcode.{same_opcode}
+use Rattle.x86_opcode.specs.Number.{same_opcode}
 use Rattle.x86_operand.specs.Register.{Register}
 use Rattle.x86_operand.specs.Meaning.{OperandMeaning, register, signed, unsigned, memory, nothing, Meaning}
 

@@ -1,16 +1,18 @@
 //! Operands, and the addresses among them.
 
+ghost use Rattle.std.specs.Prelude.{◌≡◌, ◌↔◌, IsTrue};
+
 use crate::register::RegSpec;
 
 /// An index register and the factor that it is multiplied by.
-#[derive(Clone, Copy)]
+#[derive(Clone, Copy, Debug)]
 pub struct Index {
     pub reg: RegSpec,
     pub scale: u8,
 }
 
 /// A memory address: a base, a scaled index and a displacement, each compared by itself.
-#[derive(Clone, Copy)]
+#[derive(Clone, Copy, Debug)]
 pub struct Address {
     pub base: Option<RegSpec>,
     pub index: Option<Index>,
@@ -18,7 +20,7 @@ pub struct Address {
 }
 
 /// One operand.
-#[derive(Clone, Copy)]
+#[derive(Clone, Copy, Debug)]
 pub enum Operand {
     /// A register.
     Register { reg: RegSpec },
@@ -32,4 +34,114 @@ pub enum Operand {
     Memory { address: Address },
     /// No operand.
     Nothing,
+}
+
+/// Two indices are equal where register and scale are.
+impl PartialEq for Index {
+    ghost use Rattle.std.specs.Cmp.{decided, partial_equiv_from_equiv};
+    ghost use Rattle.x86_operand.specs.Same.{same_index};
+    ghost use Rattle.x86_operand.specs.Same.Laws.{same_index_decides};
+
+    ghost eq = { same_index };
+
+    ghost laws = { partial_equiv_from_equiv (decided same_index same_index_decides) };
+
+    fn eq(&self, other: &Index) -> bool
+        ensures same { IsTrue result ↔ (self.now ≡ other.now) }
+    {
+        self.reg == other.reg && self.scale == other.scale
+    }
+}
+
+impl Eq for Index {
+    ghost use Rattle.std.specs.Cmp.{decided};
+    ghost use Rattle.x86_operand.specs.Same.{same_index};
+    ghost use Rattle.x86_operand.specs.Same.Laws.{same_index_decides};
+
+    ghost laws = { decided same_index same_index_decides };
+}
+
+/// Two addresses are equal where base, index and displacement are, whatever their sums.
+impl PartialEq for Address {
+    ghost use Rattle.std.specs.Cmp.{decided, partial_equiv_from_equiv};
+    ghost use Rattle.x86_operand.specs.Same.{same_address};
+    ghost use Rattle.x86_operand.specs.Same.Laws.{same_address_decides};
+
+    ghost eq = { same_address };
+
+    ghost laws = { partial_equiv_from_equiv (decided same_address same_address_decides) };
+
+    #[tactic(auto, using(crate::specs::Same::Laws::parts))]
+    fn eq(&self, other: &Address) -> bool
+        ensures same { IsTrue result ↔ (self.now ≡ other.now) }
+    {
+        self.base == other.base && self.index == other.index && self.disp == other.disp
+    }
+}
+
+impl Eq for Address {
+    ghost use Rattle.std.specs.Cmp.{decided};
+    ghost use Rattle.x86_operand.specs.Same.{same_address};
+    ghost use Rattle.x86_operand.specs.Same.Laws.{same_address_decides};
+
+    ghost laws = { decided same_address same_address_decides };
+}
+
+impl Operand {
+    ghost use Rattle.std.specs.Prelude.{IfSome, IsSome, IfNone};
+    ghost use Rattle.x86_operand.specs.Meaning.{operand_meaning, memory, address_of};
+
+    // The address that a memory operand means, in whichever form it is written.
+    fn address(&self) -> Option<Address>
+        ensures { result ≡ address_of (operand_meaning self.now) }
+    {
+        match *self {
+            Operand::MemDeref { base } => Some(Address {
+                base: Some(base),
+                index: None,
+                disp: 0,
+            }),
+            Operand::Memory { address } => Some(address),
+            _ => None,
+        }
+    }
+}
+
+/// Two operands are equal where they mean the same: a `MemDeref` equals the `Memory` of its
+/// address.
+impl PartialEq for Operand {
+    ghost use Rattle.std.specs.Cmp.{decided, on_equiv, partial_equiv_from_equiv};
+    ghost use Rattle.std.specs.Ordering.{on};
+    ghost use Rattle.x86_operand.specs.Meaning.{operand_meaning};
+    ghost use Rattle.x86_operand.specs.Same.{same_operand};
+    ghost use Rattle.x86_operand.specs.Same.Laws.{same_operand_decides};
+
+    ghost eq = { on operand_meaning same_operand };
+
+    ghost laws = { partial_equiv_from_equiv (on_equiv operand_meaning (decided same_operand same_operand_decides)) };
+
+    #[tactic(auto, using(crate::specs::Same::Laws::parts))]
+    fn eq(&self, other: &Operand) -> bool
+        ensures same { IsTrue result ↔ (operand_meaning self.now ≡ operand_meaning other.now) }
+    {
+        match (self, other) {
+            (Operand::Register { reg: one }, Operand::Register { reg: two }) => one == two,
+            (Operand::ImmediateI8 { imm: one }, Operand::ImmediateI8 { imm: two }) => one == two,
+            (Operand::ImmediateU8 { imm: one }, Operand::ImmediateU8 { imm: two }) => one == two,
+            (Operand::Nothing, Operand::Nothing) => true,
+            _ => match (self.address(), other.address()) {
+                (Some(one), Some(two)) => one == two,
+                _ => false,
+            },
+        }
+    }
+}
+
+impl Eq for Operand {
+    ghost use Rattle.std.specs.Cmp.{decided, on_equiv};
+    ghost use Rattle.x86_operand.specs.Meaning.{operand_meaning};
+    ghost use Rattle.x86_operand.specs.Same.{same_operand};
+    ghost use Rattle.x86_operand.specs.Same.Laws.{same_operand_decides};
+
+    ghost laws = { on_equiv operand_meaning (decided same_operand same_operand_decides) };
 }

@@ -1,3 +1,5 @@
+//! What x86 instructions are made of: registers, addresses, operands and sizes, the instruction
+//! itself, and the errors of decoding and encoding one.
 #![tactic(auto)]
 
 mod address;
@@ -6,7 +8,7 @@ mod register;
 mod size;
 
 pub use address::{Address, Index, Operand};
-pub use error::DecodeError;
+pub use error::{DecodeError, EncodeError};
 pub use register::{RegSpec, RegisterBank};
 pub use size::MemoryAccessSize;
 pub use x86_opcode::Opcode;
