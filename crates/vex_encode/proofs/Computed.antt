@@ -4,7 +4,7 @@ use Rattle.x86_opcode.specs.declared.FloatOpcode.TheVariants.{VMOVAPS}
 use Rattle.x86_operand.specs.declared.error.DecodeError.TheVariants.{ExhaustedInput, InvalidOpcode, InvalidOperand, Outside}
 use Rattle.x86_operand.specs.declared.register.RegisterBank.TheVariants.{X}
 use Rattle.x86_operand.specs.Meaning.{register, Meaning}
-use Rattle.x86_operand.specs.Opcode.{same_opcode}
+use Rattle.x86_opcode.specs.Number.{same_opcode, opcode_number}
 use Rattle.x86_operand.specs.Same.{same_meaning, same_operands, same_operand, same_register, same_bank}
 use Rattle.x86_address.specs.Place.{At, Numbered, Based}
 use Rattle.x86_address.specs.Bytes.{Absent, Short}

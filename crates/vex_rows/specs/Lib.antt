@@ -3,3 +3,4 @@ pub mod Rules
 pub mod Table
 pub mod Groups
 pub mod Row
+pub mod Tests

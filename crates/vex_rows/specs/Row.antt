@@ -1,9 +1,12 @@
 use Rattle.std.specs.Prelude.{◌≡◌, ◌⊎◌, ℕ, Bool, true, false, ◌&&◌, ◌||◌, ◌==◌, List, [], ◌∷◌, ◌++◌, map, filter, flat_map, Option, Some, None, if◌then◌else◌}
 use Rattle.std.specs.List.{list_all, list_any}
 use Rattle.x86_opcode.specs.declared.Opcode.{Opcode}
+use Rattle.x86_opcode.specs.declared.Opcode.TheVariants.{Float}
+use Rattle.x86_opcode.specs.declared.FloatOpcode.TheVariants as float
 use Rattle.x86_operand.specs.Kind.{Kind, WithoutModRM, InRegister, InMemory}
 use Rattle.vex_rows.specs.declared.entry.Entry.{Entry}
 use Rattle.vex_rows.specs.declared.form.Form.{Form}
+use Rattle.vex_rows.specs.declared.form.Form.TheVariants.{VMOVLPS_12, VMOVHPS_16}
 use Rattle.vex_rows.specs.Rules.{allows}
 use Rattle.vex_rows.specs.Steps.{steps, Check, V0, L0, Reg, Mem, Group, VifMem}
 use Rattle.vex_rows.specs.Groups.{groups}
@@ -42,10 +45,11 @@ is_group_check _ = false
 unfoldable pub has_groups : Form → Bool
 has_groups form = list_any is_group_check (steps form).second
 
--- the opcode of a reg field among groups
-abbrev pub group_opcode : List (ℕ × Opcode) → ℕ → Option Opcode
-group_opcode [] reg = None
-group_opcode (g ∷ gs) reg = if g.0 == reg then Some g.1 else group_opcode gs reg
+-- the opcode of a group, the announced one where there is none
+abbrev pub group_opcode : List (ℕ × Opcode) → Option ℕ → Opcode → Opcode
+group_opcode gs None announced = announced
+group_opcode [] (Some reg) announced = announced
+group_opcode (g ∷ gs) (Some reg) announced = if g.0 == reg then g.1 else group_opcode gs (Some reg) announced
 
 -- whether a reg field is one of the groups
 abbrev pub is_group : List (ℕ × Opcode) → ℕ → Bool
@@ -66,9 +70,15 @@ permits_choice row Mem = is_memory row.kind
 permits_choice row Group = group_allowed row.entry.form row.l row.group
 permits_choice row VifMem = true
 
--- the opcode of a row: that of its group or its kind where these decide, else the one that its entry announces
+-- the opcode of a form by its kind and group; of most forms it is the one that the entry announces
+abbrev pub opcode_by : Form → Row → Opcode
+opcode_by VMOVLPS_12 row = if is_memory row.kind then Float float.VMOVLPS else Float float.VMOVHLPS
+opcode_by VMOVHPS_16 row = if is_memory row.kind then Float float.VMOVHPS else Float float.VMOVLHPS
+opcode_by form row = group_opcode (groups form row.l) row.group row.entry.opcode
+
+-- the opcode of a row
 unfoldable pub opcode_of : Row → Opcode
-opcode_of row = row.entry.opcode
+opcode_of row = opcode_by row.entry.form row
 
 -- whether a row exists: no rule and no check of its entry refuses its W, L, kind and group
 unfoldable pub exists : Row → Bool
@@ -84,16 +94,22 @@ kinds_of form = if (steps form).modrm then InRegister ∷ InMemory ∷ [] else W
 abbrev pub group_choices : Form → ℕ → List (Option ℕ)
 group_choices form l = if has_groups form then map (λ g. Some g.0) (groups form l) else None ∷ []
 
+-- a choice of an entry
+abbrev pub row_at : Entry → Bool → ℕ → Kind → Option ℕ → Row
+row_at entry w l kind group = record { entry = entry; w = w; l = l; kind = kind; group = group }
+
 -- all choices of an entry: by W, then L, then kind, then group
+abbrev pub choices_of_kind : Entry → Bool → ℕ → Kind → List Row
+choices_of_kind entry w l kind = map (row_at entry w l kind) (group_choices entry.form l)
+
+abbrev pub choices_of_l : Entry → Bool → ℕ → List Row
+choices_of_l entry w l = flat_map (choices_of_kind entry w l) (kinds_of entry.form)
+
+abbrev pub choices_of_w : Entry → Bool → List Row
+choices_of_w entry w = flat_map (choices_of_l entry w) (0 ∷ 1 ∷ [])
+
 unfoldable pub choices : Entry → List Row
-choices entry =
-    flat_map
-    (λ w. flat_map
-    (λ l. flat_map
-    (λ kind. map (λ group. record { entry = entry; w = w; l = l; kind = kind; group = group }) (group_choices entry.form l))
-    (kinds_of entry.form))
-    (0 ∷ 1 ∷ []))
-    (false ∷ true ∷ [])
+choices entry = flat_map (choices_of_w entry) (false ∷ true ∷ [])
 
 -- all rows, in table order
 unfoldable pub rows : List Row

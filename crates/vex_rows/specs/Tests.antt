@@ -1,0 +1,50 @@
+-- What the forms and the table must be for the laws of spellings: tests that are computed.
+use Rattle.std.specs.Prelude.{ℕ, Bool, true, false, not, ◌&&◌, ◌||◌, nat_lt, ◌==◌, List, [], ◌∷◌, ◌++◌, map, filter, if◌then◌else◌}
+use Rattle.std.specs.List.{list_all, list_any}
+use Rattle.vex_rows.specs.declared.entry.Entry.{Entry}
+use Rattle.vex_rows.specs.declared.entry.Rule.{Rule}
+use Rattle.vex_rows.specs.declared.entry.Rule.TheVariants.{Any, Zero, One}
+use Rattle.vex_rows.specs.declared.form.Form.{Form}
+use Rattle.vex_rows.specs.Rules.{map_number, pp_number}
+use Rattle.vex_rows.specs.Steps.{Steps, Check, V0, L0, Reg, Mem, Group, VifMem}
+use Rattle.vex_rows.specs.Groups.{groups}
+use Rattle.vex_rows.specs.Row.{is_group_check}
+
+-- whether two rules allow one bit
+abbrev pub agree : Rule → Rule → Bool
+agree Zero One = false
+agree One Zero = false
+agree _ _ = true
+
+-- whether two entries have a key in common
+abbrev pub share_key : Entry → Entry → Bool
+share_key a b =
+  a.byte == b.byte && map_number a.map == map_number b.map && pp_number a.pp == pp_number b.pp && agree a.w b.w && agree a.l b.l
+
+-- the pairs of entries that have a key in common
+abbrev pub clashes : List Entry → List (Entry × Entry)
+clashes [] = []
+clashes (entry ∷ entries) = map (λ other. (entry, other)) (filter (share_key entry) entries) ++ clashes entries
+
+-- whether a check may stand before ModRM: it looks at prefix fields alone
+abbrev pub is_prefix_check : Check → Bool
+is_prefix_check V0 = true
+is_prefix_check L0 = true
+is_prefix_check _ = false
+
+abbrev pub is_register_check : Check → Bool
+is_register_check Reg = true
+is_register_check _ = false
+
+abbrev pub is_none : List Check → Bool
+is_none [] = true
+is_none _ = false
+
+-- whether the steps of a form are in order: only checks of prefix fields stand before ModRM; without ModRM nothing of it
+-- is checked or read; a form that reads no address checks that the operand is a register; groups are looked at before
+-- the address
+abbrev pub is_orderly : Steps → Bool
+is_orderly form =
+  list_all is_prefix_check form.first && not (list_any is_group_check form.third)
+  && (if form.modrm then form.address || list_any is_register_check form.second
+      else is_none form.second && is_none form.third && not form.address)
