@@ -8,7 +8,6 @@ use Rattle.vex_rows.specs.declared.form.Form.{Form}
 use Rattle.vex_rows.specs.Rules.{map_number, pp_number}
 use Rattle.vex_rows.specs.Steps.{Steps, Check, V0, L0, Reg, Mem, Group, VifMem}
 use Rattle.vex_rows.specs.Groups.{groups}
-use Rattle.vex_rows.specs.Row.{is_group_check}
 
 -- whether two rules allow one bit
 abbrev pub agree : Rule → Rule → Bool
@@ -32,6 +31,19 @@ is_prefix_check V0 = true
 is_prefix_check L0 = true
 is_prefix_check _ = false
 
+-- whether a check may stand between ModRM and the address: it looks at ModRM alone
+abbrev pub is_modrm_check : Check → Bool
+is_modrm_check Reg = true
+is_modrm_check Mem = true
+is_modrm_check Group = true
+is_modrm_check _ = false
+
+-- whether a check may stand after the address
+abbrev pub is_late_check : Check → Bool
+is_late_check Reg = true
+is_late_check VifMem = true
+is_late_check _ = false
+
 abbrev pub is_register_check : Check → Bool
 is_register_check Reg = true
 is_register_check _ = false
@@ -40,11 +52,11 @@ abbrev pub is_none : List Check → Bool
 is_none [] = true
 is_none _ = false
 
--- whether the steps of a form are in order: only checks of prefix fields stand before ModRM; without ModRM nothing of it
--- is checked or read; a form that reads no address checks that the operand is a register; groups are looked at before
--- the address
+-- whether the steps of a form are in order: checks of prefix fields, then ModRM, checks of ModRM, the address, and late
+-- checks; without ModRM nothing of it is checked or read; a form that reads no address checks that the operand is a
+-- register
 abbrev pub is_orderly : Steps → Bool
 is_orderly form =
-  list_all is_prefix_check form.first && not (list_any is_group_check form.third)
+  list_all is_prefix_check form.first && list_all is_modrm_check form.second && list_all is_late_check form.third
   && (if form.modrm then form.address || list_any is_register_check form.second
       else is_none form.second && is_none form.third && not form.address)

@@ -1,0 +1,69 @@
+-- The slots of every row fit its steps.
+use Rattle.std.specs.Prelude.{◌≡◌, refl, nat_le, Bool, true, false, not, ◌&&◌, ◌||◌, List, [], ◌∷◌, if◌then◌else◌}
+use Rattle.x86_operand.specs.declared.register.RegisterBank.TheVariants.{X}
+use Rattle.x86_operand.specs.Kind.{Kind, WithoutModRM, InRegister, InMemory}
+use Rattle.vex_rows.specs.declared.form.Form.{Form}
+use Rattle.vex_rows.specs.declared.form.Form.TheVariants.{Nothing, VMOVSS_10, VMOVSD_10, VMOVSS_11, VMOVSD_11}
+use Rattle.vex_rows.specs.Steps.{steps}
+use Rattle.vex_rows.specs.Row.{Row, row_at}
+use Rattle.std.specs.List.{list_any}
+use Rattle.vex_rows.proofs.Lists.{both-parts}
+use Rattle.vex_forms.specs.declared.slot.VvvvRule.TheVariants.{Named, Zero, Free}
+use Rattle.vex_forms.specs.Slots.{slots, slots_of, names_v, demands_v, v_rule}
+use Rattle.vex_forms.specs.Tests.{is_sound, immediates, names_g}
+
+-- by the kind of a row, for the forms whose slots depend on it
+by_kind : (test : Kind → Bool) → test WithoutModRM ≡ true → test InRegister ≡ true → test InMemory ≡ true → (kind : Kind) → test kind ≡ true
+by_kind test a b c WithoutModRM = a
+by_kind test a b c InRegister = b
+by_kind test a b c InMemory = c
+
+pub sound : (form : Form) (row : Row) → is_sound form row ≡ true
+unfolding steps
+sound Nothing row = refl
+sound VMOVSS_10 row = by_kind (λ kind. is_sound VMOVSS_10 (row_at row.entry row.w row.l kind row.group)) refl refl refl row.kind
+sound VMOVSD_10 row = by_kind (λ kind. is_sound VMOVSD_10 (row_at row.entry row.w row.l kind row.group)) refl refl refl row.kind
+sound VMOVSS_11 row = by_kind (λ kind. is_sound VMOVSS_11 (row_at row.entry row.w row.l kind row.group)) refl refl refl row.kind
+sound VMOVSD_11 row = by_kind (λ kind. is_sound VMOVSD_11 (row_at row.entry row.w row.l kind row.group)) refl refl refl row.kind
+sound _ row = refl
+
+
+-- vvvv isn't both named by a slot and demanded to be 0
+abbrev pub named : Row → Bool
+named row = list_any names_v (slots_of row.entry.form row)
+
+abbrev pub demanded : Row → Bool
+demanded row = list_any (demands_v row.kind) (steps row.entry.form).first || list_any (demands_v row.kind) (steps row.entry.form).third
+
+-- the parts of the test of a row
+pub record Sound (row : Row) : Type 0 where
+  pub immediates : nat_le (immediates (slots_of row.entry.form row)) (if (steps row.entry.form).imm then 1 else 0) ≡ true
+  pub v : not (named row && demanded row) ≡ true
+  pub alone : ((steps row.entry.form).modrm || not (list_any names_g (slots_of row.entry.form row))) ≡ true
+
+pub sound_row : (row : Row) → Sound row
+sound_row row =
+  let all = both-parts (nat_le (immediates (slots_of row.entry.form row)) (if (steps row.entry.form).imm then 1 else 0) && not (named row && demanded row)) ((steps row.entry.form).modrm || not (list_any names_g (slots_of row.entry.form row))) (sound row.entry.form row) in
+  let two = both-parts (nat_le (immediates (slots_of row.entry.form row)) (if (steps row.entry.form).imm then 1 else 0)) (not (named row && demanded row)) all.0 in
+  record { immediates = two.0; v = two.1; alone = all.1 }
+
+-- what a row asks of vvvv, by what its slots name and its steps demand
+rule_demanded : (named demanded : Bool) → not (named && demanded) ≡ true → demanded ≡ true → (if named then Named else if demanded then Zero else Free) ≡ Zero
+rule_demanded true true h e = cc
+rule_demanded true false h e = cc
+rule_demanded false true h e = refl
+rule_demanded false false h e = cc
+
+rule_zero : (named demanded : Bool) → (if named then Named else if demanded then Zero else Free) ≡ Zero → (named ≡ false) × (demanded ≡ true)
+rule_zero true demanded e = cc
+rule_zero false true e = (refl, refl)
+rule_zero false false e = cc
+
+pub v_rule-demanded : (row : Row) → demanded row ≡ true → v_rule row ≡ Zero
+unfolding v_rule slots
+v_rule-demanded row h = rule_demanded (named row) (demanded row) (sound_row row).v h
+
+-- where vvvv is to be 0, a step demands it, and no slot names it
+pub v_rule-zero : (row : Row) → v_rule row ≡ Zero → (named row ≡ false) × (demanded row ≡ true)
+unfolding v_rule slots
+v_rule-zero row h = rule_zero (named row) (demanded row) h

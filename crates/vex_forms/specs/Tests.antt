@@ -1,0 +1,35 @@
+-- What the slots of a row must be for the laws of spellings: a test that is computed.
+use Rattle.std.specs.Prelude.{ℕ, ◌+◌, Bool, true, false, not, ◌&&◌, ◌||◌, nat_le, List, [], ◌∷◌, if◌then◌else◌}
+use Rattle.std.specs.List.{list_any}
+use Rattle.vex_rows.specs.declared.form.Form.{Form}
+use Rattle.vex_rows.specs.Steps.{steps}
+use Rattle.vex_rows.specs.Row.{Row}
+use Rattle.vex_forms.specs.declared.slot.Slot.{Slot}
+use Rattle.vex_forms.specs.declared.slot.Slot.TheVariants.{G, V, E, U8, I8, R4}
+use Rattle.vex_forms.specs.Slots.{slots_of, names_v, demands_v}
+
+-- whether a slot names the field reg
+abbrev pub names_g : Slot → Bool
+names_g (G bank) = true
+names_g _ = false
+
+-- whether a slot reads the immediate byte
+abbrev pub names_imm : Slot → Bool
+names_imm U8 = true
+names_imm I8 = true
+names_imm (R4 bank) = true
+names_imm _ = false
+
+-- how many slots read the immediate byte
+abbrev pub immediates : List Slot → ℕ
+immediates [] = 0
+immediates (slot ∷ slots) = (if names_imm slot then 1 else 0) + immediates slots
+
+-- whether the slots of a form fit its steps: at most one reads the immediate byte, and none where there is none; vvvv
+-- isn't demanded to be 0 where a slot names it; without ModRM no slot names the field reg
+abbrev pub is_sound : Form → Row → Bool
+is_sound form row =
+  nat_le (immediates (slots_of form row)) (if (steps form).imm then 1 else 0)
+  && not (list_any names_v (slots_of form row)
+    && (list_any (demands_v row.kind) (steps form).first || list_any (demands_v row.kind) (steps form).third))
+  && ((steps form).modrm || not (list_any names_g (slots_of form row)))
