@@ -1,3 +1,4 @@
 pub mod Binds
 pub mod Prefix
 pub mod Form
+pub mod Walk

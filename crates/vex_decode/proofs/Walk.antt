@@ -1,0 +1,361 @@
+-- A decode reads again what a row writes, and what it reads was so written.
+use Rattle.std.specs.Prelude.{◌≡◌, refl, ◌⊎◌, ℕ, ◌≤◌, ◌<◌, Bool, true, false, not, ◌&&◌, ◌||◌, ◌==◌, List, [], ◌∷◌, ◌++◌, map, find, Ok, Err, Option, Some, None, if◌then◌else◌}
+use Rattle.std.specs.List.{list_all, list_any}
+use Rattle.std.proofs.Common.{arith, ap, ap₂, sym, ◌∙◌, inl, inr, subst, subst₂, append_assoc}
+use Rattle.std.proofs.lemmas.Bool.{eqb-true, eq-eqb}
+use Rattle.x86_opcode.specs.declared.Opcode.{Opcode}
+use Rattle.x86_operand.specs.Kind.{Kind, WithoutModRM, InRegister, InMemory}
+use Rattle.x86_address.specs.Bytes.{IsBytes}
+use Rattle.x86_address.specs.Place.{kind_of, place_bytes}
+use Rattle.x86_address.specs.Reading.{Reading, ◌>>=◌, take_byte}
+use Rattle.x86_address.proofs.Reader.{Answers, Answers-ok, Answers-bind, ReadsByte, take_byte-written}
+use Rattle.vex_rows.specs.declared.entry.Entry.{Entry}
+use Rattle.vex_rows.specs.declared.form.Form.{Form}
+use Rattle.vex_rows.specs.declared.key.Map.{Map}
+use Rattle.vex_rows.specs.declared.key.Map.TheVariants.{Map0F, Map0F38, Map0F3A}
+use Rattle.vex_rows.specs.declared.key.Pp.{Pp}
+use Rattle.vex_rows.specs.declared.key.Pp.TheVariants.{Plain, Prefix66, PrefixF3, PrefixF2}
+use Rattle.vex_rows.specs.Rules.{has_key, allows, map_number, pp_number}
+use Rattle.vex_rows.specs.Steps.{steps, Check, V0, L0, Reg, Mem, Group, VifMem}
+use Rattle.vex_rows.specs.Groups.{groups}
+use Rattle.vex_rows.specs.Table.{table}
+use Rattle.vex_rows.specs.Row.{Row, Among, IsRow, kinds_of, is_register, is_memory, is_group, is_group_check, has_groups, group_choices, permits_choice, group_allowed}
+use Rattle.vex_rows.specs.Tests.{is_prefix_check, is_modrm_check, is_late_check}
+use Rattle.vex_rows.proofs.Lists.{both-parts, parts-both, from-list_all, list_all-each, found-find, find-only, among-append_left, among-append_right, among-append, among-map, from-map}
+use Rattle.vex_rows.proofs.Rows.{Chosen, chosen-row, row-chosen, checks_of}
+use Rattle.vex_rows.proofs.Forms.{orderly, one_entry, HasKey, from-has_key, to-has_key}
+use Rattle.vex_forms.specs.declared.slot.VvvvRule.{VvvvRule}
+use Rattle.vex_forms.specs.declared.slot.VvvvRule.TheVariants.{Named, Zero, Free}
+use Rattle.vex_forms.specs.Slots.{v_rule, demands_v}
+use Rattle.vex_forms.proofs.Sound.{demanded, v_rule-demanded, v_rule-zero}
+use Rattle.vex_decode.specs.Fields.{Fields, PrefixForm, prefix_bytes, IsPrefix}
+use Rattle.vex_decode.specs.Spelling.{Syntax, has_imm, imm_bytes, bytes_of, FitsRule, FitsGroup, FitsImm, IsSyntax}
+use Rattle.vex_decode.specs.Walk.{passes, Operands, read_prefix, key_of, entry_of, found, walk_form, row_of, syntax_of, walk}
+use Rattle.vex_decode.proofs.Prefix.{ReadsPrefix, read_prefix-again, read_prefix-written}
+use Rattle.vex_decode.proofs.Form.{ReadsForm, WritesForm, step_then, walk_form-again, walk_form-written}
+
+-- the checks of an orderly form
+pub record Orderly (entry : Entry) : Type 0 where
+  pub first : list_all is_prefix_check (steps entry.form).first ≡ true
+  pub second : list_all is_modrm_check (steps entry.form).second ≡ true
+  pub third : list_all is_late_check (steps entry.form).third ≡ true
+
+pub orderly_checks : (entry : Entry) → Orderly entry
+orderly_checks entry =
+  let all = both-parts (list_all is_prefix_check (steps entry.form).first && list_all is_modrm_check (steps entry.form).second && list_all is_late_check (steps entry.form).third) _ (orderly entry.form) in
+  let two = both-parts (list_all is_prefix_check (steps entry.form).first && list_all is_modrm_check (steps entry.form).second) (list_all is_late_check (steps entry.form).third) all.0 in
+  let one = both-parts (list_all is_prefix_check (steps entry.form).first) (list_all is_modrm_check (steps entry.form).second) two.0 in
+  record { first = one.0; second = one.1; third = two.1 }
+
+-- an element that passes a test makes some element pass it
+any-among : {A : Type 0} (p : A → Bool) (x : A) (xs : List A) → Among x xs → p x ≡ true → list_any p xs ≡ true
+any-among p x [] m h = absurd m
+any-among p x (y ∷ xs) (inl e) h = rw (sym (ap p e) ∙ h) refl
+any-among p x (y ∷ xs) (inr m) h = or_true (p y) (list_any p xs) (any-among p x xs m h) where
+  or_true : (a b : Bool) → b ≡ true → (a || b) ≡ true
+  or_true true b k = refl
+  or_true false b k = k
+
+or_left : (a b : Bool) → a ≡ true → (a || b) ≡ true
+or_left true b h = refl
+or_left false b h = cc
+
+or_right : (a b : Bool) → b ≡ true → (a || b) ≡ true
+or_right true b h = refl
+or_right false b h = h
+
+zero_of_rule : (rule : VvvvRule) (v : ℕ) → FitsRule rule v → rule ≡ Zero → v ≡ 0
+zero_of_rule Named v fits e = cc
+zero_of_rule Zero v fits e = fits
+zero_of_rule Free v fits e = cc
+
+module _ (row : Row) (s : Syntax) (chosen : Chosen row) (is : IsSyntax row s) where
+  -- vvvv is 0 where a step demands it
+  v_first : (c : Check) → Among c (steps row.entry.form).first → demands_v row.kind c ≡ true → (s.fields.v == 0) ≡ true
+  v_first c m h = eq-eqb _ _ (zero_of_rule (v_rule row) s.fields.v is.v (v_rule-demanded row (or_left _ _ (any-among (demands_v row.kind) c (steps row.entry.form).first m h))))
+
+  v_third : (c : Check) → Among c (steps row.entry.form).third → demands_v row.kind c ≡ true → (s.fields.v == 0) ≡ true
+  v_third c m h = eq-eqb _ _ (zero_of_rule (v_rule row) s.fields.v is.v (v_rule-demanded row (or_right _ _ (any-among (demands_v row.kind) c (steps row.entry.form).third m h))))
+
+  -- each check of the row's choice holds
+  chosen_first : (c : Check) → Among c (steps row.entry.form).first → permits_choice row c ≡ true
+  chosen_first c m = from-list_all (permits_choice row) c (checks_of row.entry) chosen.checks (among-append_left c _ _ (among-append_left c _ _ m))
+
+  chosen_second : (c : Check) → Among c (steps row.entry.form).second → permits_choice row c ≡ true
+  chosen_second c m = from-list_all (permits_choice row) c (checks_of row.entry) chosen.checks (among-append_left c _ _ (among-append_right c (steps row.entry.form).first _ m))
+
+  chosen_third : (c : Check) → Among c (steps row.entry.form).third → permits_choice row c ≡ true
+  chosen_third c m = from-list_all (permits_choice row) c (checks_of row.entry) chosen.checks (among-append_right c ((steps row.entry.form).first ++ (steps row.entry.form).second) _ m)
+
+  passes_first : (c : Check) → Among c (steps row.entry.form).first → passes row.entry s.fields WithoutModRM 0 c ≡ true
+  passes_first V0 m = v_first V0 m refl
+  passes_first L0 m = subst (λ l. (l == 0) ≡ true) (sym is.l) (chosen_first L0 m)
+  passes_first Reg m = cc (from-list_all is_prefix_check Reg _ (orderly_checks row.entry).first m)
+  passes_first Mem m = cc (from-list_all is_prefix_check Mem _ (orderly_checks row.entry).first m)
+  passes_first Group m = cc (from-list_all is_prefix_check Group _ (orderly_checks row.entry).first m)
+  passes_first VifMem m = cc (from-list_all is_prefix_check VifMem _ (orderly_checks row.entry).first m)
+
+-- where a form has groups, a row has one, which is the reg field
+group_by : (form : _) (l reg : ℕ) (group : Option ℕ) → has_groups form ≡ true → Among group (group_choices form l) → group_allowed form l group ≡ true → FitsGroup group reg → is_group (groups form l) reg ≡ true
+group_by form l reg None has m allowed fits =
+  let e : group_choices form l ≡ map (λ g. Some g.0) (groups form l) = rw has refl in
+  let from = from-map (λ g. Some g.0) None (groups form l) (subst (Among None) e m) in
+  cc (from.2)
+group_by form l reg (Some g) has m allowed fits = subst (λ n. is_group (groups form l) n ≡ true) (sym fits) allowed
+
+has_groups-checked : (row : Row) → Among Group (steps row.entry.form).second → has_groups row.entry.form ≡ true
+unfolding has_groups
+has_groups-checked row m = any-among is_group_check Group (steps row.entry.form).second m refl
+
+if_memory : (b : Bool) (t : Bool) → (b ≡ true → t ≡ true) → (if b then t else true) ≡ true
+if_memory true t h = h refl
+if_memory false t h = refl
+
+module _ (row : Row) (s : Syntax) (chosen : Chosen row) (is : IsSyntax row s) where
+  passes_second : (c : Check) → Among c (steps row.entry.form).second → passes row.entry s.fields (kind_of s.place) s.reg c ≡ true
+  passes_second V0 m = cc (from-list_all is_modrm_check V0 _ (orderly_checks row.entry).second m)
+  passes_second L0 m = cc (from-list_all is_modrm_check L0 _ (orderly_checks row.entry).second m)
+  passes_second Reg m = subst (λ k. is_register k ≡ true) (sym is.kind) (chosen_second row s chosen is Reg m)
+  passes_second Mem m = subst (λ k. is_memory k ≡ true) (sym is.kind) (chosen_second row s chosen is Mem m)
+  passes_second Group m =
+    let has : has_groups row.entry.form ≡ true = has_groups-checked row m in
+    subst (λ l. is_group (groups row.entry.form l) s.reg ≡ true) (sym is.l)
+      (group_by row.entry.form row.l s.reg row.group has chosen.group (chosen_second row s chosen is Group m) is.group)
+  passes_second VifMem m = cc (from-list_all is_modrm_check VifMem _ (orderly_checks row.entry).second m)
+
+  passes_third : (c : Check) → Among c (steps row.entry.form).third → passes row.entry s.fields (kind_of s.place) s.reg c ≡ true
+  passes_third V0 m = cc (from-list_all is_late_check V0 _ (orderly_checks row.entry).third m)
+  passes_third L0 m = cc (from-list_all is_late_check L0 _ (orderly_checks row.entry).third m)
+  passes_third Reg m = subst (λ k. is_register k ≡ true) (sym is.kind) (chosen_third row s chosen is Reg m)
+  passes_third Mem m = cc (from-list_all is_late_check Mem _ (orderly_checks row.entry).third m)
+  passes_third Group m = cc (from-list_all is_late_check Group _ (orderly_checks row.entry).third m)
+  passes_third VifMem m = if_memory (is_memory (kind_of s.place)) (s.fields.v == 0) (λ memory. v_third row s chosen is VifMem m (subst (λ k. is_memory k ≡ true) is.kind memory))
+
+  -- what the form of a row writes passes its steps
+  writes_form : WritesForm row.entry s.fields (record { reg = s.reg; place = s.place; imm = s.imm })
+  unfolding has_imm
+  writes_form = record {
+    first = list_all-each _ _ (passes_first row s chosen is);
+    second = list_all-each _ _ passes_second;
+    third = list_all-each _ _ passes_third;
+    kind = subst (λ k. Among k (kinds_of row.entry.form)) (sym is.kind) chosen.kind;
+    reg = is.reg;
+    place = is.place;
+    imm = is.imm;
+  }
+
+-- the number of a map or an implied prefix says which it is
+map_number-same : (a b : Map) → map_number a ≡ map_number b → a ≡ b
+map_number-same Map0F Map0F e = refl
+map_number-same Map0F38 Map0F38 e = refl
+map_number-same Map0F3A Map0F3A e = refl
+map_number-same _ _ e = absurd (omega arith)
+
+pp_number-same : (a b : Pp) → pp_number a ≡ pp_number b → a ≡ b
+pp_number-same Plain Plain e = refl
+pp_number-same Prefix66 Prefix66 e = refl
+pp_number-same PrefixF3 PrefixF3 e = refl
+pp_number-same PrefixF2 PrefixF2 e = refl
+pp_number-same _ _ e = absurd (omega arith)
+
+-- an entry is found by each key that it has
+pub entry_of-again : (entry : Entry) (f : Fields) → Among entry table → f.map ≡ entry.map → f.pp ≡ entry.pp → allows entry.w f.w ≡ true → allows entry.l (f.l == 1) ≡ true → entry_of (key_of f entry.byte) ≡ Some entry
+unfolding entry_of
+entry_of-again entry f m map pp w l =
+  let key = key_of f entry.byte in
+  let has : has_key entry key ≡ true = to-has_key entry key (record { byte = refl; map = ap map_number (sym map); pp = ap pp_number (sym pp); w = w; l = l }) in
+  find-only (λ e. has_key e key) table entry m has (λ other n h. one_entry other entry key n m h has)
+
+-- what is found has the key
+pub record Finds (entry : Entry) (f : Fields) (byte : ℕ) : Type 0 where
+  pub listed : Among entry table
+  pub byte_is : entry.byte ≡ byte
+  pub map : f.map ≡ entry.map
+  pub pp : f.pp ≡ entry.pp
+  pub w : allows entry.w f.w ≡ true
+  pub l : allows entry.l (f.l == 1) ≡ true
+
+pub entry_of-finds : (f : Fields) (byte : ℕ) (entry : Entry) → entry_of (key_of f byte) ≡ Some entry → Finds entry f byte
+unfolding entry_of
+entry_of-finds f byte entry e =
+  let got = found-find (λ entry. has_key entry (key_of f byte)) table entry e in
+  let has = from-has_key entry (key_of f byte) got.1 in
+  record { listed = got.0; byte_is = has.byte; map = map_number-same _ _ (sym has.map); pp = pp_number-same _ _ (sym has.pp); w = has.w; l = has.l }
+
+-- the group of a row is the reg field that was written
+group-same : (has : Bool) (gs : List (ℕ × Opcode)) (group : Option ℕ) (reg : ℕ) → Among group (if has then map (λ g. Some g.0) gs else None ∷ []) → FitsGroup group reg → (if has then Some reg else None) ≡ group
+group-same true gs None reg m fits = cc ((from-map (λ g. Some g.0) None gs m).2)
+group-same true gs (Some g) reg m fits = ap Some fits
+group-same false gs group reg (inl e) fits = sym e
+group-same false gs group reg (inr e) fits = absurd e
+
+group_of_row : (row : Row) (reg : ℕ) → Chosen row → FitsGroup row.group reg → (if has_groups row.entry.form then Some reg else None) ≡ row.group
+group_of_row row reg chosen fits = group-same (has_groups row.entry.form) (groups row.entry.form row.l) row.group reg chosen.group fits
+
+-- the bytes of a spelling with what follows them
+spelling_then : (row : Row) (s : Syntax) (rest : List ℕ) → bytes_of row s ++ rest ≡ prefix_bytes s.form s.fields ++ row.entry.byte ∷ (place_bytes s.reg s.place ++ (imm_bytes (has_imm row) s.imm ++ rest))
+spelling_then row s rest =
+  append_assoc (prefix_bytes s.form s.fields) (row.entry.byte ∷ (place_bytes s.reg s.place ++ imm_bytes (has_imm row) s.imm)) rest
+  ∙ ap (λ tail. prefix_bytes s.form s.fields ++ row.entry.byte ∷ tail) (append_assoc (place_bytes s.reg s.place) (imm_bytes (has_imm row) s.imm) rest)
+
+-- what a row writes is read again, whatever follows it
+pub walk-again : (row : Row) (s : Syntax) (rest : List ℕ) → IsRow row → IsSyntax row s → walk (bytes_of row s ++ rest) ≡ Ok ((row, s), rest)
+unfolding walk has_imm
+walk-again row s rest is_row is =
+  let chosen = chosen-row row is_row in
+  let after : List ℕ = place_bytes s.reg s.place ++ (imm_bytes (has_imm row) s.imm ++ rest) in
+  let operands : Operands = record { reg = s.reg; place = s.place; imm = s.imm } in
+  let w : allows row.entry.w s.fields.w ≡ true = subst (λ w. allows row.entry.w w ≡ true) (sym is.w) chosen.w in
+  let l : allows row.entry.l (s.fields.l == 1) ≡ true = subst (λ l. allows row.entry.l (l == 1) ≡ true) (sym is.l) chosen.l in
+  let found_is = entry_of-again row.entry s.fields chosen.listed is.map is.pp w l in
+  let group = group_of_row row s.reg chosen is.group in
+  ap walk (spelling_then row s rest)
+  ∙ step_then (read_prefix (prefix_bytes s.form s.fields ++ row.entry.byte ∷ after)) _ ((s.form, s.fields), row.entry.byte ∷ after) _ (read_prefix-again s.form s.fields (row.entry.byte ∷ after) is.prefix)
+    (step_then (found (entry_of (key_of s.fields row.entry.byte)) after) _ (row.entry, after) _ (ap (λ o. found o after) found_is)
+      (step_then (walk_form row.entry s.fields after) _ (operands, rest) _ (walk_form-again row.entry s.fields operands rest (writes_form row s chosen is))
+        (λ i. Ok ((record { entry = row.entry; w = is.w i; l = is.l i; kind = is.kind i; group = group i }, s), rest))))
+
+-- what a decode has read, and how it was written
+pub record Walked (bytes : List ℕ) (row : Row) (s : Syntax) (rest : List ℕ) : Type 0 where
+  pub is_row : IsRow row
+  pub is : IsSyntax row s
+  pub written : bytes ≡ bytes_of row s ++ rest
+  pub left : IsBytes rest
+
+found-finds : (f : Fields) (byte : ℕ) (bytes : List ℕ) → Answers (λ entry rest. Finds entry f byte × (rest ≡ bytes)) (found (entry_of (key_of f byte)) bytes)
+found-finds f byte bytes = by (entry_of (key_of f byte)) refl where
+  by : (o : Option Entry) → entry_of (key_of f byte) ≡ o → Answers (λ entry rest. Finds entry f byte × (rest ≡ bytes)) (found o bytes)
+  by None e = λ value rest h. cc
+  by (Some entry) e = Answers-ok _ entry bytes (entry_of-finds f byte entry e, refl)
+
+-- a group check that passes
+group_passed : (entry : Entry) (f : Fields) (kind : Kind) (reg : ℕ) (cs : List Check) → list_any is_group_check cs ≡ true → list_all (passes entry f kind reg) cs ≡ true → is_group (groups entry.form f.l) reg ≡ true
+group_passed entry f kind reg [] any all = cc
+group_passed entry f kind reg (Group ∷ cs) any all = (both-parts (is_group (groups entry.form f.l) reg) _ all).0
+group_passed entry f kind reg (V0 ∷ cs) any all = group_passed entry f kind reg cs any (both-parts (passes entry f kind reg V0) _ all).1
+group_passed entry f kind reg (L0 ∷ cs) any all = group_passed entry f kind reg cs any (both-parts (passes entry f kind reg L0) _ all).1
+group_passed entry f kind reg (Reg ∷ cs) any all = group_passed entry f kind reg cs any (both-parts (passes entry f kind reg Reg) _ all).1
+group_passed entry f kind reg (Mem ∷ cs) any all = group_passed entry f kind reg cs any (both-parts (passes entry f kind reg Mem) _ all).1
+group_passed entry f kind reg (VifMem ∷ cs) any all = group_passed entry f kind reg cs any (both-parts (passes entry f kind reg VifMem) _ all).1
+
+is_group-among : (gs : List (ℕ × Opcode)) (reg : ℕ) → is_group gs reg ≡ true → Among (Some reg) (map (λ g. Some g.0) gs)
+is_group-among [] reg h = cc
+is_group-among (g ∷ gs) reg h = by (g.0 == reg) refl h (is_group-among gs reg) where
+  by : (b : Bool) → (g.0 == reg) ≡ b → (b || is_group gs reg) ≡ true → (is_group gs reg ≡ true → Among (Some reg) (map (λ g. Some g.0) gs)) → Among (Some reg) (map (λ g. Some g.0) (g ∷ gs))
+  by true e h next = inl (ap Some (sym (eqb-true _ _ e)))
+  by false e h next = inr (next h)
+
+group_read : (has : Bool) (gs : List (ℕ × Opcode)) (reg : ℕ) → (has ≡ true → is_group gs reg ≡ true) → Among (if has then Some reg else None) (if has then map (λ g. Some g.0) gs else None ∷ [])
+group_read true gs reg h = is_group-among gs reg (h refl)
+group_read false gs reg h = inl refl
+
+fits_group : (has : Bool) (reg : ℕ) → FitsGroup (if has then Some reg else None) reg
+fits_group true reg = refl
+fits_group false reg = tt
+
+allowed_read : (has : Bool) (form : Form) (l reg : ℕ) → is_group (groups form l) reg ≡ true → group_allowed form l (if has then Some reg else None) ≡ true
+allowed_read true form l reg h = h
+allowed_read false form l reg h = refl
+
+-- a check that demands that vvvv is 0, and passes
+v_passed_first : (entry : Entry) (f : Fields) (kind : Kind) (cs : List Check) → list_all is_prefix_check cs ≡ true → list_any (demands_v kind) cs ≡ true → list_all (passes entry f WithoutModRM 0) cs ≡ true → f.v ≡ 0
+v_passed_first entry f kind [] ok any all = cc
+v_passed_first entry f kind (V0 ∷ cs) ok any all = eqb-true _ _ (both-parts (f.v == 0) _ all).0
+v_passed_first entry f kind (L0 ∷ cs) ok any all = v_passed_first entry f kind cs (both-parts (is_prefix_check L0) _ ok).1 any (both-parts (passes entry f WithoutModRM 0 L0) _ all).1
+v_passed_first entry f kind (_ ∷ cs) ok any all = cc
+
+v_passed_third : (entry : Entry) (f : Fields) (kind : Kind) (reg : ℕ) (cs : List Check) → list_all is_late_check cs ≡ true → list_any (demands_v kind) cs ≡ true → list_all (passes entry f kind reg) cs ≡ true → f.v ≡ 0
+v_passed_third entry f kind reg [] ok any all = cc
+v_passed_third entry f kind reg (Reg ∷ cs) ok any all = v_passed_third entry f kind reg cs (both-parts (is_late_check Reg) _ ok).1 any (both-parts (passes entry f kind reg Reg) _ all).1
+v_passed_third entry f kind reg (VifMem ∷ cs) ok any all = by (is_memory kind) any (both-parts (if is_memory kind then f.v == 0 else true) (list_all (passes entry f kind reg) cs) all) (λ later. v_passed_third entry f kind reg cs (both-parts (is_late_check VifMem) _ ok).1 later) where
+  by : (b : Bool) → (b || list_any (demands_v kind) cs) ≡ true → ((if b then f.v == 0 else true) ≡ true) × (list_all (passes entry f kind reg) cs ≡ true) → (list_any (demands_v kind) cs ≡ true → list_all (passes entry f kind reg) cs ≡ true → f.v ≡ 0) → f.v ≡ 0
+  by true h k next = eqb-true _ _ k.0
+  by false h k next = next h k.1
+v_passed_third entry f kind reg (_ ∷ cs) ok any all = cc
+
+either_true : (a b : Bool) → (a || b) ≡ true → (a ≡ true) ⊎ (b ≡ true)
+either_true true b h = inl refl
+either_true false b h = inr h
+
+fits_rule : (rule : VvvvRule) (v : ℕ) → (rule ≡ Zero → v ≡ 0) → FitsRule rule v
+fits_rule Named v h = tt
+fits_rule Zero v h = h refl
+fits_rule Free v h = tt
+
+module _ (entry : Entry) (form : PrefixForm) (f : Fields) (byte : ℕ) (bytes : List ℕ) (read : Operands) (rest : List ℕ)
+  (is_prefix : IsPrefix form f) (finds : Finds entry f byte) (reads : ReadsForm entry f bytes read rest) where
+
+  group_checked : has_groups entry.form ≡ true → is_group (groups entry.form f.l) read.reg ≡ true
+  unfolding has_groups
+  group_checked h = group_passed entry f (kind_of read.place) read.reg (steps entry.form).second h reads.second
+
+  choice_first : (c : Check) → Among c (steps entry.form).first → permits_choice (row_of entry f read) c ≡ true
+  choice_first V0 m = refl
+  choice_first L0 m = from-list_all (passes entry f WithoutModRM 0) L0 _ reads.first m
+  choice_first Reg m = cc (from-list_all is_prefix_check Reg _ (orderly_checks entry).first m)
+  choice_first Mem m = cc (from-list_all is_prefix_check Mem _ (orderly_checks entry).first m)
+  choice_first Group m = cc (from-list_all is_prefix_check Group _ (orderly_checks entry).first m)
+  choice_first VifMem m = refl
+
+  choice_second : (c : Check) → Among c (steps entry.form).second → permits_choice (row_of entry f read) c ≡ true
+  choice_second V0 m = refl
+  choice_second L0 m = cc (from-list_all is_modrm_check L0 _ (orderly_checks entry).second m)
+  choice_second Reg m = from-list_all (passes entry f (kind_of read.place) read.reg) Reg _ reads.second m
+  choice_second Mem m = from-list_all (passes entry f (kind_of read.place) read.reg) Mem _ reads.second m
+  choice_second Group m = allowed_read (has_groups entry.form) entry.form f.l read.reg (from-list_all (passes entry f (kind_of read.place) read.reg) Group _ reads.second m)
+  choice_second VifMem m = refl
+
+  choice_third : (c : Check) → Among c (steps entry.form).third → permits_choice (row_of entry f read) c ≡ true
+  choice_third V0 m = refl
+  choice_third L0 m = cc (from-list_all is_late_check L0 _ (orderly_checks entry).third m)
+  choice_third Reg m = from-list_all (passes entry f (kind_of read.place) read.reg) Reg _ reads.third m
+  choice_third Mem m = cc (from-list_all is_late_check Mem _ (orderly_checks entry).third m)
+  choice_third Group m = cc (from-list_all is_late_check Group _ (orderly_checks entry).third m)
+  choice_third VifMem m = refl
+
+  choice : (c : Check) → Among c (checks_of entry) → permits_choice (row_of entry f read) c ≡ true
+  choice c m = elim (among-append c ((steps entry.form).first ++ (steps entry.form).second) (steps entry.form).third m) [
+      inl k ↦ elim (among-append c (steps entry.form).first (steps entry.form).second k) [ inl n ↦ choice_first c n | inr n ↦ choice_second c n ]
+    | inr k ↦ choice_third c k
+    ]
+
+  chosen_read : Chosen (row_of entry f read)
+  chosen_read = record {
+    listed = finds.listed; w = finds.w; l = finds.l; one_bit = is_prefix.l; kind = reads.kind;
+    group = group_read (has_groups entry.form) (groups entry.form f.l) read.reg group_checked;
+    checks = list_all-each _ _ choice;
+  }
+
+  v_demanded : demanded (row_of entry f read) ≡ true → f.v ≡ 0
+  v_demanded h = elim (either_true (list_any (demands_v (kind_of read.place)) (steps entry.form).first) (list_any (demands_v (kind_of read.place)) (steps entry.form).third) h) [
+      inl k ↦ v_passed_first entry f (kind_of read.place) (steps entry.form).first (orderly_checks entry).first k reads.first
+    | inr k ↦ v_passed_third entry f (kind_of read.place) read.reg (steps entry.form).third (orderly_checks entry).third k reads.third
+    ]
+
+  syntax_read : IsSyntax (row_of entry f read) (syntax_of form f read)
+  unfolding has_imm
+  syntax_read = record {
+    prefix = is_prefix; map = finds.map; pp = finds.pp; w = refl; l = refl; reg = reads.reg; place = reads.place; kind = refl;
+    group = fits_group (has_groups entry.form) read.reg;
+    v = fits_rule (v_rule (row_of entry f read)) f.v (λ zero. v_demanded (v_rule-zero (row_of entry f read) zero).1);
+    imm = reads.imm;
+  }
+
+-- what a decode reads was written by the row that it chose
+pub walk-written : (bytes : List ℕ) → IsBytes bytes → Answers (λ read rest. Walked bytes read.0 read.1 rest) (walk bytes)
+unfolding walk has_imm
+walk-written bytes is =
+  Answers-bind (λ v r. ReadsPrefix bytes (v, r)) _ (read_prefix bytes) _ (λ v r e. read_prefix-written bytes (v, r) is e) (λ prefix r1 reads_prefix.
+    Answers-bind (ReadsByte r1) _ (take_byte r1) _ (take_byte-written r1 reads_prefix.left) (λ byte r2 reads_byte.
+      Answers-bind (λ entry r. Finds entry prefix.1 byte × (r ≡ r2)) _ (found (entry_of (key_of prefix.1 byte)) r2) _ (found-finds prefix.1 byte r2) (λ entry r3 finds.
+        Answers-bind (ReadsForm entry prefix.1 r3) _ (walk_form entry prefix.1 r3) _ (walk_form-written entry prefix.1 r3 (subst IsBytes (sym finds.1) reads_byte.left)) (λ operands r4 reads.
+          let row : Row = row_of entry prefix.1 operands in
+          let s : Syntax = syntax_of prefix.0 prefix.1 operands in
+          Answers-ok (λ read rest. Walked bytes read.0 read.1 rest) (row, s) r4 (record {
+            is_row = row-chosen row (chosen_read entry prefix.0 prefix.1 byte r3 operands r4 reads_prefix.is_prefix finds.0 reads);
+            is = syntax_read entry prefix.0 prefix.1 byte r3 operands r4 reads_prefix.is_prefix finds.0 reads;
+            written = reads_prefix.written
+              ∙ ap (λ tail. prefix_bytes prefix.0 prefix.1 ++ tail) (reads_byte.written ∙ ap₂ ◌∷◌ (sym finds.0.byte_is) (sym finds.1 ∙ reads.written))
+              ∙ sym (spelling_then row s r4);
+            left = reads.left;
+          })))))
