@@ -1,0 +1,4 @@
+pub mod Fields
+pub mod Reader
+pub mod Reading
+pub mod PlaceBytes

@@ -1,0 +1,183 @@
+-- Reading and writing addresses: what is written is read again, and what is read was so written.
+use Rattle.std.proofs.Common.{◌≡◌, ◌≢◌, ◌⊎◌, ℕ, ◌+◌, ◌*◌, ◌/◌, ◌%◌, ◌^◌, ◌<◌, List, [], ◌∷◌, ◌++◌, Ok, Err, false, ◌&&◌, ◌==◌, if◌then◌else◌, refl, sym, ap, ap₂, arith, ne_eqb, eqb-true}
+use Rattle.std.proofs.lemmas.Bool.{eqb-false}
+use Rattle.std.proofs.lemmas.Bool.Decides.{nat_tests}
+use Rattle.x86_operand.specs.declared.error.DecodeError.{DecodeError}
+use Rattle.x86_operand.specs.declared.error.DecodeError.TheVariants.{ExhaustedInput}
+use Rattle.x86_operand.specs.Kind.{InRegister, InMemory}
+use Rattle.x86_address.specs.Bytes.{IsBytes, word_bytes, Displacement, Absent, Short, Long, IsDisplacement, displacement_bytes}
+use Rattle.x86_address.specs.Place.{Place, NoPlace, Direct, Based, RipBased, Scaled, Baseless, MayBeBase, IsPlace, kind_of, mod_of_displacement, mod_of, rm_of, tail_of}
+use Rattle.x86_address.specs.Reading.{take_byte, take_word, take_short, take_long, take_displacement, take_baseless, take_scaled, take_sib, take_rip_based, take_based, take_place}
+use Rattle.x86_address.proofs.Fields.{word_of_bytes, bytes_of_word, high_field, middle_field, low_field}
+use Rattle.x86_address.proofs.Reader.{IsReader, IsReader-ok, IsReader-bind, IsReader-if, Exhausts, Answers, Answers-ok, Answers-bind, Answers-if, ReadsByte, take_byte-written, IsReader-take_byte}
+
+-- what is written is read again
+pub take_word-again : (n : ℕ) (rest : List ℕ) → n < 2 ^ 32 → take_word (word_bytes n ++ rest) ≡ Ok (n, rest)
+take_word-again n rest p = rw (word_of_bytes n p)
+
+pub take_displacement-again : (d : Displacement) (rest : List ℕ) → IsDisplacement d → take_displacement (mod_of_displacement d) (displacement_bytes d ++ rest) ≡ Ok (d, rest)
+take_displacement-again Absent rest p = refl
+take_displacement-again (Short n) rest p = refl
+take_displacement-again (Long n) rest p = rw (word_of_bytes n p)
+
+pub take_place-again : (p : Place) (rest : List ℕ) → IsPlace p → (kind_of p ≡ InRegister) ⊎ (kind_of p ≡ InMemory) → take_place (mod_of p) (rm_of p) (tail_of p ++ rest) ≡ Ok (p, rest)
+take_place-again NoPlace rest ok k = grind arith
+take_place-again (Direct rm) rest ok k = refl
+take_place-again (Based rm Absent) rest ok k = rw (ne_eqb rm 4 ok.1, ne_eqb rm 5 ok.2) refl
+take_place-again (Based rm (Short n)) rest ok k = rw (ne_eqb rm 4 ok.1) refl
+take_place-again (Based rm (Long n)) rest ok k = rw (ne_eqb rm 4 ok.1, word_of_bytes n ok.3) refl
+take_place-again (RipBased n) rest ok k = rw (word_of_bytes n ok) refl
+take_place-again (Scaled k i j Absent) rest ok _ = rw (low_field k i j ok.2, ne_eqb j 5 ok.3, high_field k i j ok.1 ok.2, middle_field k i j ok.1 ok.2) refl
+take_place-again (Scaled k i j (Short n)) rest ok _ = rw (low_field k i j ok.2, high_field k i j ok.1 ok.2, middle_field k i j ok.1 ok.2) refl
+take_place-again (Scaled k i j (Long n)) rest ok _ = rw (low_field k i j ok.2, high_field k i j ok.1 ok.2, middle_field k i j ok.1 ok.2, word_of_bytes n ok.4) refl
+take_place-again (Baseless k i n) rest ok _ =
+    let five : 5 < 8 = omega arith in
+    rw (low_field k i 5 five, high_field k i 5 ok.1 five, middle_field k i 5 ok.1 five, word_of_bytes n ok.2) refl
+
+-- a word that was read stood first, in its four bytes
+pub record ReadsWord (bytes : List ℕ) (n : ℕ) (rest : List ℕ) : Type 0 where
+  pub is_word : n < 2 ^ 32
+  pub written : bytes ≡ word_bytes n ++ rest
+  pub left : IsBytes rest
+
+pub take_word-written : (bytes : List ℕ) → IsBytes bytes → Answers (ReadsWord bytes) (take_word bytes)
+take_word-written [] ok value rest h = cc
+take_word-written (a ∷ []) ok value rest h = cc
+take_word-written (a ∷ b ∷ []) ok value rest h = cc
+take_word-written (a ∷ b ∷ c ∷ []) ok value rest h = cc
+take_word-written (a ∷ b ∷ c ∷ d ∷ after) ok value rest h =
+    Answers-ok (ReadsWord (a ∷ b ∷ c ∷ d ∷ after)) (a + 256 * b + 65536 * c + 16777216 * d) after (record {
+      is_word = omega arith;
+      written = sym (ap (λ bytes. bytes ++ after) (bytes_of_word a b c d ok.0 ok.1.0 ok.1.1.0 ok.1.1.1.0));
+      left = ok.1.1.1.1;
+    }) value rest h
+
+-- a displacement that was read stood first, as long as mod says
+pub record ReadsDisplacement (mode : ℕ) (bytes : List ℕ) (d : Displacement) (rest : List ℕ) : Type 0 where
+  pub is_displacement : IsDisplacement d
+  pub mode_is : mod_of_displacement d ≡ mode
+  pub written : bytes ≡ displacement_bytes d ++ rest
+  pub left : IsBytes rest
+
+take_short-written : (mode : ℕ) (bytes : List ℕ) → mode ≡ 1 → IsBytes bytes → Answers (ReadsDisplacement mode bytes) (take_short bytes)
+take_short-written mode bytes m ok =
+    Answers-bind (ReadsByte bytes) (ReadsDisplacement mode bytes) _ _ (take_byte-written bytes ok) (λ n rest r. Answers-ok _ (Short n) rest (record { is_displacement = r.is_byte; mode_is = sym m; written = r.written; left = r.left }))
+
+take_long-written : (mode : ℕ) (bytes : List ℕ) → mode ≡ 2 → IsBytes bytes → Answers (ReadsDisplacement mode bytes) (take_long bytes)
+take_long-written mode bytes m ok =
+    Answers-bind (ReadsWord bytes) (ReadsDisplacement mode bytes) _ _ (take_word-written bytes ok) (λ n rest r. Answers-ok _ (Long n) rest (record { is_displacement = r.is_word; mode_is = sym m; written = r.written; left = r.left }))
+
+pub take_displacement-written : (mode : ℕ) (bytes : List ℕ) → mode < 3 → IsBytes bytes → Answers (ReadsDisplacement mode bytes) (take_displacement mode bytes)
+take_displacement-written mode bytes m ok =
+    Answers-if _ _ _ _ (λ none. Answers-ok _ Absent bytes (record { is_displacement = tt; mode_is = sym (eqb-true mode 0 none); written = refl; left = ok })) (λ some. Answers-if _ _ _ _ (λ one. take_short-written mode bytes (eqb-true mode 1 one) ok) (λ more. take_long-written mode bytes (omega (arith, eqb-false mode 0 some, eqb-false mode 1 more)) ok))
+
+-- a place that was read stood first, as its fields of ModRM say
+pub record ReadsPlace (mode rm : ℕ) (bytes : List ℕ) (p : Place) (rest : List ℕ) : Type 0 where
+  pub is_place : IsPlace p
+  pub mod_is : mod_of p ≡ mode
+  pub rm_is : rm_of p ≡ rm
+  pub kind_is : kind_of p ≡ (if mode == 3 then InRegister else InMemory)
+  pub written : bytes ≡ tail_of p ++ rest
+  pub left : IsBytes rest
+
+-- a base field other than 5, or one with a displacement, is a base
+base_by_mode : (field : ℕ) (d : Displacement) (mode : ℕ) → mod_of_displacement d ≡ mode → (mode == 0 && field == 5) ≡ false → MayBeBase field d
+base_by_mode field Absent mode m h = λ e. grind (arith, nat_tests)
+base_by_mode field (Short n) mode m h = tt
+base_by_mode field (Long n) mode m h = tt
+
+take_based-written : (mode rm : ℕ) (bytes : List ℕ) → mode < 3 → rm < 8 → rm ≢ 4 → (mode == 0 && rm == 5) ≡ false → IsBytes bytes → Answers (ReadsPlace mode rm bytes) (take_based mode rm bytes)
+take_based-written mode rm bytes m r four base ok =
+    Answers-bind (ReadsDisplacement mode bytes) _ _ _ (take_displacement-written mode bytes m ok) (λ d rest read. Answers-ok _ (Based rm d) rest (record {
+      is_place = (r, four, base_by_mode rm d mode read.mode_is base, read.is_displacement);
+      mod_is = read.mode_is;
+      rm_is = refl;
+      kind_is = grind (arith, nat_tests);
+      written = read.written;
+      left = read.left;
+    }))
+
+take_rip_based-written : (mode rm : ℕ) (bytes : List ℕ) → mode ≡ 0 → rm ≡ 5 → IsBytes bytes → Answers (ReadsPlace mode rm bytes) (take_rip_based bytes)
+take_rip_based-written mode rm bytes m r ok =
+    Answers-bind (ReadsWord bytes) _ _ _ (take_word-written bytes ok) (λ n rest read. Answers-ok _ (RipBased n) rest (record {
+      is_place = read.is_word;
+      mod_is = sym m;
+      rm_is = sym r;
+      kind_is = grind (arith, nat_tests);
+      written = read.written;
+      left = read.left;
+    }))
+
+take_baseless-written : (mode sib : ℕ) (bytes : List ℕ) → mode ≡ 0 → sib < 256 → sib % 8 ≡ 5 → IsBytes bytes → Answers (ReadsPlace mode 4 (sib ∷ bytes)) (take_baseless sib bytes)
+take_baseless-written mode sib bytes m s five ok =
+    Answers-bind (ReadsWord bytes) _ _ _ (take_word-written bytes ok) (λ n rest read. Answers-ok _ (Baseless (sib / 64) ((sib / 8) % 8) n) rest (record {
+      is_place = (omega arith, omega arith, read.is_word);
+      mod_is = sym m;
+      rm_is = refl;
+      kind_is = grind (arith, nat_tests);
+      written = ap₂ ◌∷◌ (omega arith) read.written;
+      left = read.left;
+    }))
+
+take_scaled-written : (mode sib : ℕ) (bytes : List ℕ) → mode < 3 → sib < 256 → (mode == 0 && sib % 8 == 5) ≡ false → IsBytes bytes → Answers (ReadsPlace mode 4 (sib ∷ bytes)) (take_scaled mode sib bytes)
+take_scaled-written mode sib bytes m s base ok =
+    Answers-bind (ReadsDisplacement mode bytes) _ _ _ (take_displacement-written mode bytes m ok) (λ d rest read. Answers-ok _ (Scaled (sib / 64) ((sib / 8) % 8) (sib % 8) d) rest (record {
+      is_place = (omega arith, omega arith, omega arith, base_by_mode (sib % 8) d mode read.mode_is base, read.is_displacement);
+      mod_is = read.mode_is;
+      rm_is = refl;
+      kind_is = grind (arith, nat_tests);
+      written = ap₂ ◌∷◌ (omega arith) read.written;
+      left = read.left;
+    }))
+
+take_sib-written : (mode rm : ℕ) (bytes : List ℕ) → mode < 3 → rm ≡ 4 → IsBytes bytes → Answers (ReadsPlace mode rm bytes) (take_sib mode bytes)
+take_sib-written mode rm bytes m r ok =
+    Answers-bind (ReadsByte bytes) _ _ _ (take_byte-written bytes ok) (λ sib after read. rw (r, read.written) (Answers-if _ _ _ _ (λ none. take_baseless-written mode sib after (grind (arith, nat_tests)) read.is_byte (grind (arith, nat_tests)) read.left) (λ based. take_scaled-written mode sib after m read.is_byte based read.left)))
+
+pub take_place-written : (mode rm : ℕ) (bytes : List ℕ) → mode < 4 → rm < 8 → IsBytes bytes → Answers (ReadsPlace mode rm bytes) (take_place mode rm bytes)
+take_place-written mode rm bytes m r ok =
+    Answers-if _ _ _ _ (λ three. Answers-ok _ (Direct rm) bytes (record {
+      is_place = r;
+      mod_is = sym (eqb-true mode 3 three);
+      rm_is = refl;
+      kind_is = ap (λ test. if test then InRegister else InMemory) (sym three);
+      written = refl;
+      left = ok;
+    })) (λ memory. let below : mode < 3 = omega (arith, eqb-false mode 3 memory) in Answers-if _ _ _ _ (λ four. take_sib-written mode rm bytes below (eqb-true rm 4 four) ok) (λ other. Answers-if _ _ _ _ (λ rip. take_rip_based-written mode rm bytes (grind (arith, nat_tests)) (grind (arith, nat_tests)) ok) (λ based. take_based-written mode rm bytes below r (eqb-false rm 4 other) based ok)))
+
+-- the steps of an address fail only where no byte is left, and more bytes after those that are read change nothing
+pub IsReader-take_word : IsReader Exhausts take_word
+IsReader-take_word =
+    IsReader-bind _ take_byte _ IsReader-take_byte (λ a. IsReader-bind _ take_byte _ IsReader-take_byte (λ b. IsReader-bind _ take_byte _ IsReader-take_byte (λ c. IsReader-bind _ take_byte _ IsReader-take_byte (λ d. IsReader-ok _ _))))
+
+pub IsReader-take_displacement : (mode : ℕ) → IsReader Exhausts (take_displacement mode)
+IsReader-take_displacement mode =
+    IsReader-if _ _ _ _ (IsReader-ok _ Absent) (IsReader-if _ _ _ _ (IsReader-bind _ take_byte _ IsReader-take_byte (λ n. IsReader-ok _ (Short n))) (IsReader-bind _ take_word _ IsReader-take_word (λ n. IsReader-ok _ (Long n))))
+
+pub IsReader-take_sib : (mode : ℕ) → IsReader Exhausts (take_sib mode)
+IsReader-take_sib mode =
+    IsReader-bind _ take_byte _ IsReader-take_byte (λ sib. IsReader-if _ _ _ _ (IsReader-bind _ take_word _ IsReader-take_word (λ n. IsReader-ok _ _)) (IsReader-bind _ (take_displacement mode) _ (IsReader-take_displacement mode) (λ d. IsReader-ok _ _)))
+
+pub IsReader-take_place : (mode rm : ℕ) → IsReader Exhausts (take_place mode rm)
+IsReader-take_place mode rm =
+    IsReader-if _ _ _ _ (IsReader-ok _ _) (IsReader-if _ _ _ _ (IsReader-take_sib mode) (IsReader-if _ _ _ _ (IsReader-bind _ take_word _ IsReader-take_word (λ n. IsReader-ok _ _)) (IsReader-bind _ (take_displacement mode) _ (IsReader-take_displacement mode) (λ d. IsReader-ok _ _))))
+
+-- a failure says that no byte is left
+pub take_byte-fails : (bytes : List ℕ) (error : DecodeError × List ℕ) → take_byte bytes ≡ Err error → error ≡ (ExhaustedInput, [])
+take_byte-fails = IsReader-take_byte.fails
+
+pub take_word-fails : (bytes : List ℕ) (error : DecodeError × List ℕ) → take_word bytes ≡ Err error → error ≡ (ExhaustedInput, [])
+take_word-fails = IsReader-take_word.fails
+
+pub take_place-fails : (mode rm : ℕ) (bytes : List ℕ) (error : DecodeError × List ℕ) → take_place mode rm bytes ≡ Err error → error ≡ (ExhaustedInput, [])
+take_place-fails mode rm = (IsReader-take_place mode rm).fails
+
+-- more bytes after those that are read change nothing
+pub take_byte-more : (bytes more : List ℕ) (n : ℕ) (rest : List ℕ) → take_byte bytes ≡ Ok (n, rest) → take_byte (bytes ++ more) ≡ Ok (n, rest ++ more)
+take_byte-more bytes more n rest = IsReader-take_byte.more bytes more (n, rest)
+
+pub take_word-more : (bytes more : List ℕ) (n : ℕ) (rest : List ℕ) → take_word bytes ≡ Ok (n, rest) → take_word (bytes ++ more) ≡ Ok (n, rest ++ more)
+take_word-more bytes more n rest = IsReader-take_word.more bytes more (n, rest)
+
+pub take_place-more : (mode rm : ℕ) (bytes more : List ℕ) (p : Place) (rest : List ℕ) → take_place mode rm bytes ≡ Ok (p, rest) → take_place mode rm (bytes ++ more) ≡ Ok (p, rest ++ more)
+take_place-more mode rm bytes more p rest = (IsReader-take_place mode rm).more bytes more (p, rest)
