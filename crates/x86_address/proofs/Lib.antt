@@ -2,3 +2,4 @@ pub mod Fields
 pub mod Reader
 pub mod Reading
 pub mod PlaceBytes
+pub mod Shortest

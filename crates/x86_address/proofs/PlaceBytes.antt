@@ -76,7 +76,7 @@ IsBytes-place_bytes reg NoPlace r ok = tt
 IsBytes-place_bytes reg p r ok = (modrm_below reg p r ok, IsBytes-tail_of p ok)
 
 -- how many bytes there are
-displacement_length : (d : Displacement) → length (displacement_bytes d) ≤ 4
+pub displacement_length : (d : Displacement) → length (displacement_bytes d) ≤ 4
 displacement_length Absent = omega arith
 displacement_length (Short n) = omega arith
 displacement_length (Long n) = omega arith

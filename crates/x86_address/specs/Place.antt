@@ -93,6 +93,12 @@ pub data Target : Type 0 where
   Number : ℕ → Target
   At : PlainAddress → Target
 
+-- the kind of operand that a target is
+abbrev pub kind_of_target : Target → Kind
+kind_of_target NoTarget = WithoutModRM
+kind_of_target (Number n) = InRegister
+kind_of_target (At a) = InMemory
+
 -- index field and X: the number 4 means no index, and the scale then plays no part
 abbrev pub index_of : ℕ → ℕ → Bool → Option (ℕ × ℕ)
 index_of k i x = if i + 8 * bit x == 4 then None else Some (i + 8 * bit x, 2 ^ k)

@@ -1,4 +1,5 @@
-use Rattle.std.specs.Prelude.{ℕ, ◌-◌, ◌/◌, ◌%◌, ◌^◌, ℤ, pos, negsuc, Bool, true, false, not, ◌&&◌, ◌||◌, nat_lt, Option, Some, None, ◌==◌, if◌then◌else◌}
+use Rattle.std.specs.Prelude.{◌≡◌, ◌≢◌, ◌<◌, FitsSigned, ℕ, ◌-◌, ◌/◌, ◌%◌, ◌^◌, ℤ, pos, negsuc, Bool, true, false, not, ◌&&◌, ◌||◌, nat_lt, Option, Some, None, ◌==◌, if◌then◌else◌}
+use Rattle.std.specs.Int.{w32}
 use Rattle.x86_operand.specs.declared.register.RegisterBank.{RegisterBank}
 use Rattle.x86_operand.specs.declared.register.RegisterBank.TheVariants.{Q, RIP}
 use Rattle.x86_operand.specs.declared.address.Address.{Address}
@@ -109,3 +110,28 @@ abbrev pub b_of : Target → Bool
 b_of NoTarget = false
 b_of (Number n) = is_upper n
 b_of (At a) = b_of_base a.base
+
+-- a number of a base register is at most 15
+abbrev pub IsBase : Base → Type 0
+IsBase NoBase = Unit {0}
+IsBase Rip = Unit {0}
+IsBase (Numbered n) = n < 16
+
+-- the number of an index is at most 15 and not 4, and its scale is 1, 2, 4 or 8
+abbrev pub IsIndex : Option (ℕ × ℕ) → Type 0
+IsIndex None = Unit {0}
+IsIndex (Some index) = (index.0 < 16) × (index.0 ≢ 4) × (exponent : ℕ) × (exponent < 4) × (index.1 ≡ 2 ^ exponent)
+
+-- an address that bytes can name: base and index in range, a displacement of 32 bits, and no index beside the
+-- instruction pointer
+pub record IsSpellableAddress (a : PlainAddress) : Type 0 where
+  pub base : IsBase a.base
+  pub index : IsIndex a.index
+  pub disp : FitsSigned w32 a.disp
+  pub alone : a.base ≡ Rip → a.index ≡ None
+
+-- what bytes can name: a register's number is at most 15
+abbrev pub IsSpellable : Target → Type 0
+IsSpellable NoTarget = Unit {0}
+IsSpellable (Number n) = n < 16
+IsSpellable (At a) = IsSpellableAddress a
