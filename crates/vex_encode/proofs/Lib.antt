@@ -1,1 +1,3 @@
 mod Computed
+pub mod Candidate
+pub mod Standard
