@@ -1,3 +1,4 @@
 mod Computed
 pub mod Candidate
 pub mod Standard
+pub mod Canon
