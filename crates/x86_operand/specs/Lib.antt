@@ -1,5 +1,6 @@
 pub mod Register
 pub mod Meaning
+pub mod Instruction
 pub mod Same
 pub mod Size
 pub mod Errors

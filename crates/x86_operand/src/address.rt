@@ -88,8 +88,8 @@ impl Eq for Address {
 }
 
 impl Operand {
-    ghost use Rattle.std.specs.Prelude.{IfSome, IsSome, IfNone};
-    ghost use Rattle.x86_operand.specs.Meaning.{operand_meaning, memory, address_of};
+    ghost use Rattle.x86_operand.specs.Meaning.{operand_meaning, address_of};
+    ghost use Rattle.x86_operand.specs.Instruction.{kept_operand};
 
     // The address that a memory operand means, in whichever form it is written.
     fn address(&self) -> Option<Address>
@@ -103,6 +103,22 @@ impl Operand {
             }),
             Operand::Memory { address } => Some(address),
             _ => None,
+        }
+    }
+
+    // The operand in the form in which an instruction keeps it.
+    pub(crate) fn kept(&self) -> Operand
+        ensures { result ≡ kept_operand (operand_meaning self.now) }
+    {
+        match *self {
+            Operand::Memory {
+                address: Address {
+                    base: Some(base),
+                    index: None,
+                    disp: 0,
+                },
+            } => Operand::MemDeref { base },
+            other => other,
         }
     }
 }

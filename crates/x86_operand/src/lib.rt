@@ -4,11 +4,13 @@
 
 mod address;
 mod error;
+mod instruction;
 mod register;
 mod size;
 
 pub use address::{Address, Index, Operand};
 pub use error::{DecodeError, EncodeError};
+pub use instruction::Instruction;
 pub use register::{RegSpec, RegisterBank};
 pub use size::MemoryAccessSize;
 pub use x86_opcode::Opcode;
