@@ -6,3 +6,6 @@ pub mod Size
 pub mod Errors
 pub use Rattle.x86_opcode.specs.Name
 pub use Rattle.x86_opcode.specs.Number
+pub use Rattle.x86_opcode.specs.Condition
+pub use Rattle.x86_opcode.specs.Mark
+pub use Rattle.x86_opcode.specs.Vex

@@ -71,7 +71,7 @@ impl PartialEq for Address {
 
     ghost laws = { partial_equiv_from_equiv (decided same_address same_address_decides) };
 
-    #[tactic(auto, using(crate::specs::Same::Laws::parts))]
+    #[tactic(auto, using(crate::specs::Same::Laws::address_parts))]
     fn eq(&self, other: &Address) -> bool
         ensures same { IsTrue result ↔ (self.now ≡ other.now) }
     {
@@ -136,7 +136,7 @@ impl PartialEq for Operand {
 
     ghost laws = { partial_equiv_from_equiv (on_equiv operand_meaning (decided same_operand same_operand_decides)) };
 
-    #[tactic(auto, using(crate::specs::Same::Laws::parts))]
+    #[tactic(auto, using(crate::specs::Same::Laws::address_parts))]
     fn eq(&self, other: &Operand) -> bool
         ensures same { IsTrue result ↔ (operand_meaning self.now ≡ operand_meaning other.now) }
     {

@@ -191,6 +191,50 @@ impl Instruction {
     {
         self.len = len;
     }
+
+    /// Whether the two have one meaning: the same mark, opcode, operands and memory size, whatever
+    /// their lengths.
+    #[tactic(auto, using(crate::specs::Same::Laws::meaning_parts))]
+    pub fn has_same_meaning(&self, other: &Instruction) -> bool
+        ensures { IsTrue result ↔ (self.now.meaning ≡ other.now.meaning) }
+    {
+        self.evex == other.evex
+            && self.opcode.is(other.opcode)
+            && self.operands() == other.operands()
+            && self.mem_size == other.mem_size
+    }
+
+    // The operands, up to the count.
+    fn operands(&self) -> &[Operand]
+        ensures { map operand_meaning result.now ≡ self.now.meaning.operands }
+    {
+        &self.operands[..usize::from(self.operand_count)]
+    }
+}
+
+/// Two instructions are equal where their meanings and their lengths are.
+impl PartialEq for Instruction {
+    ghost use Rattle.std.specs.Cmp.{decided, partial_equiv_from_equiv};
+    ghost use Rattle.x86_operand.specs.Same.{same_decoded};
+    ghost use Rattle.x86_operand.specs.Same.Laws.{same_decoded_decides};
+
+    ghost eq = { same_decoded };
+
+    ghost laws = { partial_equiv_from_equiv (decided same_decoded same_decoded_decides) };
+
+    fn eq(&self, other: &Instruction) -> bool
+        ensures same { IsTrue result ↔ (self.now ≡ other.now) }
+    {
+        self.has_same_meaning(other) && self.len == other.len
+    }
+}
+
+impl Eq for Instruction {
+    ghost use Rattle.std.specs.Cmp.{decided};
+    ghost use Rattle.x86_operand.specs.Same.{same_decoded};
+    ghost use Rattle.x86_operand.specs.Same.Laws.{same_decoded_decides};
+
+    ghost laws = { decided same_decoded same_decoded_decides };
 }
 
 // The four places of an instruction with these operands, each in the form in which it is kept.

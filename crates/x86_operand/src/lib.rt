@@ -7,6 +7,8 @@ mod error;
 mod instruction;
 mod register;
 mod size;
+#[cfg(test)]
+mod tests;
 
 pub use address::{Address, Index, Operand};
 pub use error::{DecodeError, EncodeError};
