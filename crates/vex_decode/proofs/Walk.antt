@@ -16,7 +16,9 @@ use Rattle.vex_rows.specs.declared.key.Map.TheVariants.{Map0F, Map0F38, Map0F3A}
 use Rattle.vex_rows.specs.declared.key.Pp.{Pp}
 use Rattle.vex_rows.specs.declared.key.Pp.TheVariants.{Plain, Prefix66, PrefixF3, PrefixF2}
 use Rattle.vex_rows.specs.Rules.{has_key, allows, map_number, pp_number}
-use Rattle.vex_rows.specs.Steps.{steps, Check, V0, L0, Reg, Mem, Group, VifMem}
+use Rattle.vex_rows.specs.declared.steps.Check.{Check}
+use Rattle.vex_rows.specs.declared.steps.Check.TheVariants.{V0, L0, Reg, Mem, Group, VifMem}
+use Rattle.vex_rows.specs.Steps.{steps}
 use Rattle.vex_rows.specs.Groups.{groups}
 use Rattle.vex_rows.specs.Table.{table}
 use Rattle.vex_rows.specs.Row.{Row, Among, IsRow, kinds_of, is_register, is_memory, is_group, is_group_check, has_groups, group_choices, permits_choice, group_allowed}

@@ -8,7 +8,9 @@ use Rattle.vex_rows.specs.declared.entry.Entry.{Entry}
 use Rattle.vex_rows.specs.declared.form.Form.{Form}
 use Rattle.vex_rows.specs.declared.form.Form.TheVariants.{VMOVLPS_12, VMOVHPS_16}
 use Rattle.vex_rows.specs.Rules.{allows}
-use Rattle.vex_rows.specs.Steps.{steps, Check, V0, L0, Reg, Mem, Group, VifMem}
+use Rattle.vex_rows.specs.declared.steps.Check.{Check}
+use Rattle.vex_rows.specs.declared.steps.Check.TheVariants.{V0, L0, Reg, Mem, Group, VifMem}
+use Rattle.vex_rows.specs.Steps.{steps}
 use Rattle.vex_rows.specs.Groups.{groups}
 use Rattle.vex_rows.specs.Table.{table}
 
