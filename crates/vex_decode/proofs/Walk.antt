@@ -21,7 +21,7 @@ use Rattle.vex_rows.specs.declared.steps.Check.TheVariants.{V0, L0, Reg, Mem, Gr
 use Rattle.vex_rows.specs.Steps.{steps}
 use Rattle.vex_rows.specs.Groups.{groups}
 use Rattle.vex_rows.specs.Table.{table}
-use Rattle.vex_rows.specs.Row.{Row, Among, IsRow, kinds_of, is_register, is_memory, is_group, is_group_check, has_groups, group_choices, permits_choice, group_allowed}
+use Rattle.vex_rows.specs.Row.{Row, Among, IsRow, kinds_of, is_register, is_memory, is_group, is_group_check, has_groups, group_choices, permits_choice, group_allowed, has_imm}
 use Rattle.vex_rows.specs.Tests.{is_prefix_check, is_modrm_check, is_late_check}
 use Rattle.vex_rows.proofs.Lists.{both-parts, parts-both, from-list_all, list_all-each, found-find, find-only, among-append_left, among-append_right, among-append, among-map, from-map}
 use Rattle.vex_rows.proofs.Rows.{Chosen, chosen-row, row-chosen, checks_of}
@@ -31,7 +31,7 @@ use Rattle.vex_forms.specs.declared.slot.VvvvRule.TheVariants.{Named, Zero, Free
 use Rattle.vex_forms.specs.Slots.{v_rule, demands_v}
 use Rattle.vex_forms.proofs.Sound.{demanded, v_rule-demanded, v_rule-zero}
 use Rattle.vex_decode.specs.Fields.{Fields, PrefixForm, prefix_bytes, IsPrefix}
-use Rattle.vex_decode.specs.Spelling.{Syntax, has_imm, imm_bytes, bytes_of, FitsRule, FitsGroup, FitsImm, IsSyntax}
+use Rattle.vex_decode.specs.Spelling.{Syntax, imm_bytes, bytes_of, FitsRule, FitsGroup, FitsImm, IsSyntax}
 use Rattle.vex_decode.specs.Walk.{passes, Operands, read_prefix, key_of, entry_of, found, walk_form, row_of, syntax_of, walk}
 use Rattle.vex_decode.proofs.Prefix.{ReadsPrefix, read_prefix-again, read_prefix-written}
 use Rattle.vex_decode.proofs.Form.{ReadsForm, WritesForm, step_then, walk_form-again, walk_form-written}

@@ -63,6 +63,10 @@ abbrev pub group_allowed : Form → ℕ → Option ℕ → Bool
 group_allowed form l None = true
 group_allowed form l (Some reg) = is_group (groups form l) reg
 
+-- whether a row has an immediate byte
+unfoldable pub has_imm : Row → Bool
+has_imm row = (steps row.entry.form).imm
+
 -- whether a check refuses no spelling of the row for its kind, L or group alone
 abbrev pub permits_choice : Row → Check → Bool
 permits_choice row V0 = true
