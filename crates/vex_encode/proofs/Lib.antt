@@ -2,3 +2,4 @@ mod Computed
 pub mod Candidate
 pub mod Standard
 pub mod Canon
+pub mod Refusals

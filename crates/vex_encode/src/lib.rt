@@ -1,2 +1,5 @@
 //! The shortest spelling of an instruction.
 #![tactic(auto)]
+
+mod bytes;
+mod prefix;
