@@ -1,3 +1,4 @@
 pub mod Standard
 pub mod Canon
 pub mod Reads
+pub mod Form

@@ -2,4 +2,8 @@
 #![tactic(auto)]
 
 mod bytes;
+mod form;
 mod prefix;
+mod spelling;
+
+pub use spelling::Spelling;
