@@ -4,10 +4,12 @@
 mod entry;
 mod form;
 mod key;
+mod entries;
 mod steps;
 mod table;
 
 pub use entry::{Entry, Rule};
 pub use form::Form;
 pub use key::{Key, Map, Pp, Prefix};
+pub use entries::{entry_at, entry_count, lookup};
 pub use steps::{Check, Steps, steps_of};
