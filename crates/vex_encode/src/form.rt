@@ -5,14 +5,14 @@ ghost use Rattle.std.specs.List.{list_any};
 ghost use Rattle.x86_address.specs.Bytes.{bit};
 ghost use Rattle.vex_rows.specs.Groups.{groups};
 ghost use Rattle.vex_rows.specs.Row.{is_group};
-ghost use Rattle.vex_rows.specs.Steps.{steps};
+ghost use Rattle.vex_rows.specs.Steps.{steps, steps_seen};
 ghost use Rattle.vex_decode.specs.Fields.{fields_of};
-ghost use Rattle.vex_decode.specs.Walk.{passes, refusal, check_all, kind_of_mod, walk_form};
+ghost use Rattle.vex_decode.specs.Walk.{passes, refusal, check_all, kind_of_mod, walk_modrm, walk_alone, walk_form};
 ghost use Rattle.vex_encode.specs.Form.{kind_seen, parts_seen, ChecksGive};
 ghost use Rattle.vex_encode.specs.Reads.{Gives};
 
 use crate::bytes::{first_byte, immediate};
-use vex_rows::{Check, Entry, Prefix, groups_of, steps_of};
+use vex_rows::{Check, Entry, Prefix, Steps, groups_of, steps_of};
 use x86_operand::{DecodeError, Opcode};
 
 /// What stands in the place of the operand E.
@@ -86,4 +86,70 @@ fn do_checks(
         }
     }
     Ok(())
+}
+
+/// The kind of operand that ModRM says.
+fn kind_of(modrm: u8) -> Kind
+    ensures { kind_seen result ≡ kind_of_mod (modrm / 64) }
+{
+    if modrm / 64 == 3 {
+        Kind::Register
+    } else {
+        Kind::Memory
+    }
+}
+
+/// Reads from ModRM on, for a form that reads no address.
+fn parts_from_modrm<'a>(
+    form: &Steps,
+    entry: &Entry,
+    prefix: &Prefix,
+    bytes: &'a [u8],
+) -> Result<(FormParts, &'a [u8]), DecodeError>
+    requires { form.now.address ≡ false }
+    ensures { Gives parts_seen result (walk_modrm entry.now (fields_of prefix.now) (steps_seen form.now) bytes.now) }
+{
+    let (modrm, rest) = first_byte(bytes)?;
+    let reg = modrm / 8 % 8;
+    do_checks(form.second, entry, prefix, kind_of(modrm), reg)?;
+    do_checks(form.third, entry, prefix, kind_of(modrm), reg)?;
+    let (imm, rest) = immediate(form.imm, rest)?;
+    let parts = FormParts {
+        reg,
+        rm: Some(modrm % 8),
+        imm,
+    };
+    Ok((parts, rest))
+}
+
+/// Reads what a form without ModRM has: its immediate byte, where it has one.
+fn parts_alone<'a>(form: &Steps, bytes: &'a [u8]) -> Result<(FormParts, &'a [u8]), DecodeError>
+    ensures { Gives parts_seen result (walk_alone (steps_seen form.now) bytes.now) }
+{
+    let (imm, rest) = immediate(form.imm, bytes)?;
+    let parts = FormParts {
+        reg: 0,
+        rm: None,
+        imm,
+    };
+    Ok((parts, rest))
+}
+
+/// Does the steps of an entry's form over the bytes after the opcode byte, for a form that reads no address.
+#[tactic(auto, unfolding(vex_decode::specs::Walk::walk_form))]
+pub fn form_parts<'a>(
+    entry: &Entry,
+    prefix: &Prefix,
+    bytes: &'a [u8],
+) -> Result<(FormParts, &'a [u8]), DecodeError>
+    requires { (steps entry.now.form).address ≡ false }
+    ensures { Gives parts_seen result (walk_form entry.now (fields_of prefix.now) bytes.now) }
+{
+    let form = steps_of(entry.form);
+    do_checks(form.first, entry, prefix, Kind::WithoutModRM, 0)?;
+    if form.modrm {
+        parts_from_modrm(&form, entry, prefix, bytes)
+    } else {
+        parts_alone(&form, bytes)
+    }
 }

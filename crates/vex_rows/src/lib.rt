@@ -3,6 +3,7 @@
 
 mod entry;
 mod form;
+mod groups;
 mod key;
 mod entries;
 mod steps;
@@ -10,6 +11,7 @@ mod table;
 
 pub use entry::{Entry, Rule};
 pub use form::Form;
+pub use groups::groups_of;
 pub use key::{Key, Map, Pp, Prefix};
 pub use entries::{entry_at, entry_count, lookup};
 pub use steps::{Check, Steps, steps_of};
