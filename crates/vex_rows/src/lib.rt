@@ -3,13 +3,16 @@
 
 mod entry;
 mod form;
+mod groups;
 mod key;
+pub mod laws;
 mod entries;
 mod steps;
 mod table;
 
 pub use entry::{Entry, Rule};
 pub use form::Form;
+pub use groups::groups_of;
 pub use key::{Key, Map, Pp, Prefix};
 pub use entries::{entry_at, entry_count, lookup};
 pub use steps::{Check, Steps, steps_of};
