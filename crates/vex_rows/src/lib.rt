@@ -5,6 +5,7 @@ mod entry;
 mod form;
 mod groups;
 mod key;
+pub mod laws;
 mod entries;
 mod steps;
 mod table;
