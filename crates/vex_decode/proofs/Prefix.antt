@@ -58,7 +58,7 @@ bit-inverted : (n : ℕ) → n < 2 → 1 - bit (inverted n) ≡ n
 bit-inverted n h = grind (arith, nat_tests)
 
 -- a bit that stands as it is, and back
-is_one-bit : (b : Bool) → (bit b == 1) ≡ b
+pub is_one-bit : (b : Bool) → (bit b == 1) ≡ b
 is_one-bit true = refl
 is_one-bit false = refl
 

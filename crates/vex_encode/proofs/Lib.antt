@@ -3,3 +3,4 @@ pub mod Candidate
 pub mod Standard
 pub mod Canon
 pub mod Refusals
+pub mod Direct

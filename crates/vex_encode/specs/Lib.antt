@@ -2,3 +2,4 @@ pub mod Standard
 pub mod Canon
 pub mod Reads
 pub mod Form
+pub mod Walk

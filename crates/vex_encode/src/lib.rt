@@ -5,5 +5,6 @@ mod bytes;
 mod form;
 mod prefix;
 mod spelling;
+mod walk;
 
 pub use spelling::Spelling;

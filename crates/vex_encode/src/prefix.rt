@@ -100,7 +100,7 @@ fn three_byte_prefix(bytes: &[u8]) -> Result<(Prefix, &[u8]), DecodeError>
 }
 
 /// The prefix at the front of the bytes, and the bytes after it.
-pub fn prefix(bytes: &[u8]) -> Result<(Prefix, &[u8]), DecodeError>
+pub fn read_prefix(bytes: &[u8]) -> Result<(Prefix, &[u8]), DecodeError>
     ensures { ReadsPrefix result (read_prefix bytes.now) }
 {
     let (first, rest) = first_byte(bytes)?;
