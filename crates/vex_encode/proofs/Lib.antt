@@ -4,3 +4,4 @@ pub mod Standard
 pub mod Canon
 pub mod Refusals
 pub mod Direct
+pub mod Mapped

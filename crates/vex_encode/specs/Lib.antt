@@ -3,3 +3,4 @@ pub mod Canon
 pub mod Reads
 pub mod Form
 pub mod Walk
+pub mod Operands
