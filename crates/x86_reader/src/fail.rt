@@ -6,9 +6,10 @@ ghost use Rattle.x86_reader.specs.SliceReader.{failing_state, RefusesNext};
 use crate::{ReadError, Reader, U8Reader};
 use std::marker::Model;
 
-/// Reads a borrowed slice, and refuses at the calls of `next` that it was told, counted from 0, and where no byte is left.
+/// Reads a borrowed slice, and refuses exactly at the calls of `next` that it was told and where no byte is left.
 ///
-/// The number of a call stands still at the greatest `u64`.
+/// It tells the bytes left. Calls are counted from 0, refused ones too; the number of a call stands still at the
+/// greatest `u64`, and so does the count of refusals.
 #[derive(Drop)]
 pub struct FailReader<'a> {
     words: U8Reader<'a>,
@@ -33,7 +34,7 @@ impl<'a> Model for FailReader<'a> {
 }
 
 impl<'a> FailReader<'a> {
-    /// A reader of these bytes that refuses at the calls of these numbers, and has taken and refused none.
+    /// A reader of `bytes` that is to refuse the calls whose numbers are in `failing`, in any order.
     pub fn new(bytes: &'a [u8], failing: &'a [u64]) -> FailReader<'a>
         ensures left { result.left ≡ bytes.now }
         ensures total { result.total ≡ 0 }

@@ -9,7 +9,10 @@ use std::marker::Model;
 /// How many triples a `ListSink` keeps.
 const MOST_KEPT: usize = 16;
 
-/// Takes triples of a first bit, a last bit and what stands there.
+/// Takes triples: a first bit, a last bit, and what stands there.
+///
+/// A sink that tells its triples after a call told them before. One that tells and has room still tells after it,
+/// and its room is one less.
 pub trait DescriptionSink<D> {
     /// The sink's triples, where it tells them, and its room: how many more it is sure to keep.
     ghost state: { Self → SinkState D };
@@ -19,7 +22,7 @@ pub trait DescriptionSink<D> {
         ensures { Records (state self.old) (state self.new) ((start, end, description) ∷ []) };
 }
 
-/// Drops all that it is given, and tells nothing.
+/// Drops all that it is given. It tells nothing, and has no room.
 #[derive(Drop)]
 pub struct NullSink;
 
@@ -29,7 +32,9 @@ impl<D: Drop> DescriptionSink<D> for NullSink {
     fn record(&mut self, _start: u32, _end: u32, _description: D) {}
 }
 
-/// Keeps the first 16 triples that it is given, and says whether there were more.
+/// Keeps the first 16 triples that it is given, drops the others, and says whether there were any.
+///
+/// It tells its triples while it has dropped none. Its room is 16 less its length.
 #[derive(Drop)]
 pub struct ListSink<D> {
     kept: ArrayVec<(u32, u32, D), MOST_KEPT>,
@@ -64,7 +69,7 @@ impl<D: Copy + Default> ListSink<D> {
         self.kept.len()
     }
 
-    /// The triple at place `i`, counted from 0; None exactly where `i` is at least the length.
+    /// The triple at place `i`, counted from 0, and None exactly where `i` is at least `len`.
     pub fn get(&self, i: usize) -> Option<&(u32, u32, D)>
         ensures found { option_copied result ≡ slice_get self.now.kept i }
         ensures none { IsNone result ↔ (length self.now.kept ≤ i) }
@@ -72,7 +77,7 @@ impl<D: Copy + Default> ListSink<D> {
         self.kept.get(i)
     }
 
-    /// Whether no triple was dropped.
+    /// Whether no triple was dropped. Once false it stays so.
     pub fn whole(&self) -> bool
         ensures { result ≡ self.now.whole }
     {

@@ -7,6 +7,8 @@ use crate::{ReadError, Reader};
 use std::marker::Model;
 
 /// Reads a borrowed slice from its beginning to its end, and refuses exactly where no byte is left.
+///
+/// It tells the bytes left. Its count of refusals is 0 as long as there are any.
 #[derive(Drop)]
 pub struct U8Reader<'a> {
     bytes: &'a [u8],
