@@ -6,10 +6,11 @@ ghost use Rattle.x86_reader.specs.SliceReader.{failing_state, RefusesNext};
 use crate::{ReadError, Reader, U8Reader};
 use std::marker::Model;
 
-/// Reads a borrowed slice, and refuses exactly at the calls of `next` that it was told and where no byte is left.
+/// Reads a borrowed slice, and refuses exactly at the calls of `next` that it was told and where no
+/// byte is left.
 ///
-/// It tells the bytes left. Calls are counted from 0, refused ones too; the number of a call stands still at the
-/// greatest `u64`, and so does the count of refusals.
+/// It tells the bytes left. Calls are counted from 0, refused ones too; the number of a call stands
+/// still at the greatest `u64`, and so does the count of refusals.
 #[derive(Drop)]
 pub struct FailReader<'a> {
     words: U8Reader<'a>,
@@ -34,7 +35,7 @@ impl<'a> Model for FailReader<'a> {
 }
 
 impl<'a> FailReader<'a> {
-    /// A reader of `bytes` that is to refuse the calls whose numbers are in `failing`, in any order.
+    /// A reader of `bytes` that is to refuse the calls whose numbers are in `failing`.
     pub fn new(bytes: &'a [u8], failing: &'a [u64]) -> FailReader<'a>
         ensures left { result.left ≡ bytes.now }
         ensures total { result.total ≡ 0 }
@@ -57,9 +58,12 @@ impl Reader for FailReader<'_> {
 
     fn next(&mut self) -> Result<u8, ReadError>
         ensures refused { IsErr result ↔ RefusesNext self.old }
-        ensures taken { IfOk result (λ byte. Takes (failing_state self.old) (failing_state self.new) (byte ∷ [])) }
-        ensures unchanged { OnErr result (ChangesOnlyCount (failing_state self.old) (failing_state self.new)) }
-        ensures counted { OnErr result (CountsRefusal (failing_state self.old) (failing_state self.new)) }
+        ensures taken { IfOk result (λ byte.
+            Takes (failing_state self.old) (failing_state self.new) (byte ∷ [])) }
+        ensures unchanged { OnErr result
+            (ChangesOnlyCount (failing_state self.old) (failing_state self.new)) }
+        ensures counted { OnErr result
+            (CountsRefusal (failing_state self.old) (failing_state self.new)) }
         ensures refusals { self.new.refusals
             ≡ (if is_ok result then self.old.refusals else min (self.old.refusals + 1) last_count) }
         ensures calls { self.new.calls ≡ min (self.old.calls + 1) last_count }

@@ -11,8 +11,8 @@ const MOST_KEPT: usize = 16;
 
 /// Takes triples: a first bit, a last bit, and what stands there.
 ///
-/// A sink that tells its triples after a call told them before. One that tells and has room still tells after it,
-/// and its room is one less.
+/// A sink that tells its triples after a call told them before. One that tells and has room still
+/// tells after it, and its room is one less.
 pub trait DescriptionSink<D> {
     /// The sink's triples, where it tells them, and its room: how many more it is sure to keep.
     ghost state: { Self → SinkState D };
@@ -92,11 +92,13 @@ impl<D: Copy + Default> DescriptionSink<D> for ListSink<D> {
 
     fn record(&mut self, start: u32, end: u32, description: D)
         ensures records { Records (list_state self.old) (list_state self.new) ((start, end, description) ∷ []) }
-        ensures kept { length self.old.kept < most_kept → self.new.kept ≡ self.old.kept ++ (start, end, description) ∷ [] }
+        ensures kept { length self.old.kept < most_kept
+            → self.new.kept ≡ self.old.kept ++ (start, end, description) ∷ [] }
         ensures dropped { most_kept ≤ length self.old.kept → self.new.kept ≡ self.old.kept }
         ensures first { (given : List (Triple D)) → HoldsFirst given self.old
             → HoldsFirst (given ++ (start, end, description) ∷ []) self.new }
-        ensures whole { IsTrue self.new.whole ↔ (IsTrue self.old.whole × (length self.old.kept < most_kept)) }
+        ensures whole { IsTrue self.new.whole
+            ↔ (IsTrue self.old.whole × (length self.old.kept < most_kept)) }
     {
         if self.kept.is_full() {
             self.whole = false;

@@ -60,9 +60,12 @@ impl Reader for U8Reader<'_> {
 
     fn next(&mut self) -> Result<u8, ReadError>
         ensures refused { IsErr result ↔ (self.old.left ≡ []) }
-        ensures taken { IfOk result (λ byte. Takes (slice_state self.old) (slice_state self.new) (byte ∷ [])) }
-        ensures unchanged { OnErr result (ChangesOnlyCount (slice_state self.old) (slice_state self.new)) }
-        ensures counted { OnErr result (CountsRefusal (slice_state self.old) (slice_state self.new)) }
+        ensures taken { IfOk result (λ byte.
+            Takes (slice_state self.old) (slice_state self.new) (byte ∷ [])) }
+        ensures unchanged { OnErr result
+            (ChangesOnlyCount (slice_state self.old) (slice_state self.new)) }
+        ensures counted { OnErr result
+            (CountsRefusal (slice_state self.old) (slice_state self.new)) }
         ensures refusals { self.new.refusals
             ≡ (if is_ok result then self.old.refusals else min (self.old.refusals + 1) last_count) }
     {

@@ -35,14 +35,17 @@ impl Reader for SilentReader<'_> {
 
 /// Two bytes, the first of them first: what generic code over a reader can say of itself.
 fn read_two<R: Reader>(words: &mut R) -> Result<(u8, u8), ReadError>
-    ensures taken { IfOk result (λ pair. Takes (R.state words.old) (R.state words.new) (pair.0 ∷ pair.1 ∷ [])) }
+    ensures taken { IfOk result (λ pair.
+        Takes (R.state words.old) (R.state words.new) (pair.0 ∷ pair.1 ∷ [])) }
     ensures stopped { OnErr result ((bytes : List ℕ)
         × Stops (R.state words.old) (R.state words.new) bytes × (length bytes < 2)) }
     ensures counted { OnErr result (CountsRefusal (R.state words.old) (R.state words.new)) }
     ensures total { OnOk result ((R.state words.new).total ≡ (R.state words.old).total + 2) }
-    ensures since_mark { OnOk result ((R.state words.new).since_mark ≡ (R.state words.old).since_mark + 2) }
+    ensures since_mark { OnOk result
+        ((R.state words.new).since_mark ≡ (R.state words.old).since_mark + 2) }
     ensures told { IfOk result (λ pair. (left : List ℕ) → (R.state words.old).left ≡ Some left
-        → (rest : List ℕ) × (left ≡ pair.0 ∷ pair.1 ∷ rest) × ((R.state words.new).left ≡ Some rest)) }
+        → (rest : List ℕ) × (left ≡ pair.0 ∷ pair.1 ∷ rest)
+        × ((R.state words.new).left ≡ Some rest)) }
 {
     let first = words.next()?;
     let second = words.next()?;
