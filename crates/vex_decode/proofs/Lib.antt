@@ -2,3 +2,4 @@ pub mod Binds
 pub mod Prefix
 pub mod Form
 pub mod Walk
+pub mod Spells
