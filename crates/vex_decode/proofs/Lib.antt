@@ -3,3 +3,5 @@ pub mod Prefix
 pub mod Form
 pub mod Walk
 pub mod Spells
+pub mod SpellingBytes
+pub mod Readers

@@ -23,7 +23,7 @@ pp_of-number PrefixF2 = refl
 number-pp_of : (n : ℕ) → n < 4 → pp_number (pp_of n) ≡ n
 number-pp_of n h = grind (arith, nat_tests)
 
-pp_below : (pp : Pp) → pp_number pp < 4
+pub pp_below : (pp : Pp) → pp_number pp < 4
 pp_below Plain = omega arith
 pp_below Prefix66 = omega arith
 pp_below PrefixF3 = omega arith
@@ -40,12 +40,12 @@ number-map_of n Map0F h = grind (arith, nat_tests)
 number-map_of n Map0F38 h = grind (arith, nat_tests)
 number-map_of n Map0F3A h = grind (arith, nat_tests)
 
-map_below : (map : Map) → map_number map < 32
+pub map_below : (map : Map) → map_number map < 32
 map_below Map0F = omega arith
 map_below Map0F38 = omega arith
 map_below Map0F3A = omega arith
 
-bit_below : (b : Bool) → bit b ≤ 1
+pub bit_below : (b : Bool) → bit b ≤ 1
 bit_below true = omega arith
 bit_below false = omega arith
 
