@@ -5,3 +5,5 @@ pub mod Walk
 pub mod Spells
 pub mod SpellingBytes
 pub mod Readers
+pub mod Permitted
+pub mod SpellingLaws

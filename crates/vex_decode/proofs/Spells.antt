@@ -30,14 +30,14 @@ walk-spelling bytes rest m spells =
     ap (λ front. walk (front ++ rest)) spells.by.written ∙ walk-again spells.row spells.by.parts rest spells.is_row spells.by.fits
 
 -- a permitted opcode is not refused
-not_refused : (settings : List Bool) (bytes : List ℕ) (row : Row) (parts : Syntax) (rest : List ℕ) (step : Reading (Row × Syntax)) → step ≡ Ok ((row, parts), rest) → permits settings false (opcode_of row) ≡ true → refused settings bytes step ≡ None
-not_refused settings bytes row parts rest step e permitted = ap (refused settings bytes) e ∙ rw permitted refl
+pub refused-permitted : (settings : List Bool) (bytes : List ℕ) (row : Row) (parts : Syntax) (rest : List ℕ) (step : Reading (Row × Syntax)) → step ≡ Ok ((row, parts), rest) → permits settings false (opcode_of row) ≡ true → refused settings bytes step ≡ None
+refused-permitted settings bytes row parts rest step e permitted = ap (refused settings bytes) e ∙ rw permitted refl
 
 -- bytes that begin with a spelling of a permitted meaning are not blocked
 pub begun-not_blocked : (settings : List Bool) (bytes rest : List ℕ) (m : Meaning) → Spells bytes m → permits settings false m.opcode ≡ true → blocked settings (bytes ++ rest) ≡ None
 begun-not_blocked settings bytes rest m spells permitted =
     let opcode : m.opcode ≡ opcode_of spells.row = ap (λ n. n.opcode) spells.by.means ∙ opcode_meant spells.row spells.by.parts in
-    not_refused settings (bytes ++ rest) spells.row spells.by.parts rest (walk (bytes ++ rest)) (walk-spelling bytes rest m spells)
+    refused-permitted settings (bytes ++ rest) spells.row spells.by.parts rest (walk (bytes ++ rest)) (walk-spelling bytes rest m spells)
     (subst (λ o. permits settings false o ≡ true) opcode permitted)
 
 -- a spelling of a permitted meaning is not blocked
