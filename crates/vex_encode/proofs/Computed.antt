@@ -26,7 +26,7 @@ abbrev moves : Meaning
 moves = record { evex = false; opcode = Float VMOVAPS; operands = register (record { bank = X; num = 0 }) ∷ register (record { bank = X; num = 8 }) ∷ []; size = None }
 
 canon_moves : canon moves ≡ Some (0xC5 ∷ 0x78 ∷ 0x29 ∷ 0xC0 ∷ [])
-unfolding canon rows choices exists has_groups table steps groups standard candidate shortest slots index_bank size_of v_rule gives opcode_of has_imm same_meaning same_operands same_operand same_register same_bank same_opcode
+unfolding canon rows choices exists has_groups table steps groups standard candidate shortest slots index_bank size_of v_rule gives opcode_of has_imm same_meaning same_operands same_operand same_register same_bank same_opcode opcode_number
 canon_moves = refl
 
 fails_one : fails [] ≡ Some (ExhaustedInput, 0)

@@ -1,1 +1,4 @@
 mod Computed
+pub mod Candidate
+pub mod Standard
+pub mod Canon

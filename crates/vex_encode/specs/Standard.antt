@@ -1,36 +1,16 @@
-use Rattle.std.specs.Prelude.{ℕ, ◌*◌, ◌/◌, ◌%◌, Bool, true, false, not, ◌&&◌, ◌==◌, List, [], ◌∷◌, Option, Some, None, if◌then◌else◌}
+use Rattle.std.specs.Prelude.{pos, ℕ, ◌*◌, ◌/◌, ◌%◌, Bool, true, false, not, ◌&&◌, ◌==◌, List, [], ◌∷◌, Option, Some, None, if◌then◌else◌}
 use Rattle.std.specs.Int.{cast_unsigned, w8}
 use Rattle.x86_operand.specs.Kind.{Kind, WithoutModRM, InRegister, InMemory}
 use Rattle.x86_operand.specs.Meaning.{OperandMeaning, register, signed, unsigned, memory, nothing, Meaning}
 use Rattle.x86_operand.specs.Same.{same_meaning}
-use Rattle.x86_address.specs.Place.{Target, NoTarget, Number, At}
+use Rattle.x86_address.specs.Place.{Target, NoTarget, Number, At, Numbered}
 use Rattle.x86_address.specs.Shortest.{shortest, plain, x_of, b_of}
 use Rattle.vex_rows.specs.Rules.{map_number}
 use Rattle.vex_rows.specs.Row.{Row}
 use Rattle.vex_forms.specs.declared.slot.Slot.{Slot}
-use Rattle.vex_forms.specs.declared.slot.Slot.TheVariants.{G, V, E, U8, I8, R4}
-use Rattle.vex_forms.specs.Slots.{slots}
+use Rattle.vex_forms.specs.Slots.{slots, names_g, names_v, names_e, names_imm}
 use Rattle.vex_decode.specs.Fields.{Fields, PrefixForm, C4, C5}
 use Rattle.vex_decode.specs.Spelling.{Syntax, bytes_of, meant}
-
--- which slot a slot is
-abbrev pub is_g : Slot → Bool
-is_g (G bank) = true
-is_g _ = false
-
-abbrev pub is_v : Slot → Bool
-is_v (V bank) = true
-is_v _ = false
-
-abbrev pub is_e : Slot → Bool
-is_e (E bank) = true
-is_e _ = false
-
-abbrev pub is_immediate : Slot → Bool
-is_immediate U8 = true
-is_immediate I8 = true
-is_immediate (R4 bank) = true
-is_immediate _ = false
 
 -- the operand at the first slot of a kind, nothing where there is none
 abbrev pub operand_at : (Slot → Bool) → List Slot → List OperandMeaning → OperandMeaning
@@ -59,7 +39,7 @@ abbrev pub target_of : Kind → OperandMeaning → Target
 target_of WithoutModRM operand = NoTarget
 target_of InRegister operand = Number (number_of operand)
 target_of InMemory (memory address) = At (plain address)
-target_of InMemory _ = Number 0
+target_of InMemory _ = At (record { base = Numbered 0; index = None; disp = pos 0 })
 
 -- whether the two-byte prefix can say the fields: map 0F, and W, X and B are 0
 abbrev pub fits_two_bytes : Fields → Bool
@@ -100,10 +80,10 @@ assembled row g v e imm = record {
 unfoldable pub candidate : Row → Meaning → Syntax
 candidate row m =
     assembled row
-    (number_of (operand_at is_g (slots row) m.operands))
-    (number_of (operand_at is_v (slots row) m.operands))
-    (target_of row.kind (operand_at is_e (slots row) m.operands))
-    (imm_of (operand_at is_immediate (slots row) m.operands))
+    (number_of (operand_at names_g (slots row) m.operands))
+    (number_of (operand_at names_v (slots row) m.operands))
+    (target_of row.kind (operand_at names_e (slots row) m.operands))
+    (imm_of (operand_at names_imm (slots row) m.operands))
 
 -- the standard bytes of a meaning by a row; none where the row can't give it
 unfoldable pub standard : Row → Meaning → Option (List ℕ)

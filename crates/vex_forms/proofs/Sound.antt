@@ -9,8 +9,8 @@ use Rattle.vex_rows.specs.Row.{Row, row_at}
 use Rattle.std.specs.List.{list_any}
 use Rattle.vex_rows.proofs.Lists.{both-parts}
 use Rattle.vex_forms.specs.declared.slot.VvvvRule.TheVariants.{Named, Zero, Free}
-use Rattle.vex_forms.specs.Slots.{slots, slots_of, names_v, demands_v, v_rule}
-use Rattle.vex_forms.specs.Tests.{is_sound, immediates, names_g}
+use Rattle.vex_forms.specs.Slots.{slots, slots_of, names_g, names_v, demands_v, v_rule}
+use Rattle.vex_forms.specs.Tests.{is_sound, immediates}
 
 -- by the kind of a row, for the forms whose slots depend on it
 by_kind : (test : Kind → Bool) → test WithoutModRM ≡ true → test InRegister ≡ true → test InMemory ≡ true → (kind : Kind) → test kind ≡ true

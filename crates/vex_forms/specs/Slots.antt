@@ -298,10 +298,24 @@ register_size _ = None
 unfoldable pub size_of : Row → Option ℕ
 size_of row = if is_memory row.kind then memory_size row.entry.form row else register_size row.entry.form
 
--- whether a slot names vvvv
+-- which slot a slot is: that of the field reg, of vvvv, of the operand E, or one that reads the immediate byte
+abbrev pub names_g : Slot → Bool
+names_g (G bank) = true
+names_g _ = false
+
 abbrev pub names_v : Slot → Bool
 names_v (V bank) = true
 names_v _ = false
+
+abbrev pub names_e : Slot → Bool
+names_e (E bank) = true
+names_e _ = false
+
+abbrev pub names_imm : Slot → Bool
+names_imm U8 = true
+names_imm I8 = true
+names_imm (R4 bank) = true
+names_imm _ = false
 
 -- whether a check demands that vvvv is 0, for this kind of operand
 abbrev pub demands_v : Kind → Check → Bool

@@ -5,20 +5,7 @@ use Rattle.vex_rows.specs.declared.form.Form.{Form}
 use Rattle.vex_rows.specs.Steps.{steps}
 use Rattle.vex_rows.specs.Row.{Row}
 use Rattle.vex_forms.specs.declared.slot.Slot.{Slot}
-use Rattle.vex_forms.specs.declared.slot.Slot.TheVariants.{G, V, E, U8, I8, R4}
-use Rattle.vex_forms.specs.Slots.{slots_of, names_v, demands_v}
-
--- whether a slot names the field reg
-abbrev pub names_g : Slot → Bool
-names_g (G bank) = true
-names_g _ = false
-
--- whether a slot reads the immediate byte
-abbrev pub names_imm : Slot → Bool
-names_imm U8 = true
-names_imm I8 = true
-names_imm (R4 bank) = true
-names_imm _ = false
+use Rattle.vex_forms.specs.Slots.{slots_of, names_g, names_v, names_imm, demands_v}
 
 -- how many slots read the immediate byte
 abbrev pub immediates : List Slot → ℕ

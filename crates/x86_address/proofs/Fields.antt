@@ -2,26 +2,35 @@
 use Rattle.std.proofs.Common.{◌≡◌, ℕ, ◌+◌, ◌*◌, ◌/◌, ◌%◌, ◌^◌, ◌<◌, [], ◌∷◌, arith}
 use Rattle.x86_address.specs.Bytes.{word_bytes}
 
--- the fields of ModRM and of SIB, of 2, 3 and 3 bits, are what they were written from
+-- the top two bits of a packed byte
 pub high_field : (m reg rm : ℕ) → reg < 8 → rm < 8 → (64 * m + 8 * reg + rm) / 64 ≡ m
 high_field m reg rm p q = omega arith
 
+-- its middle three bits
 pub middle_field : (m reg rm : ℕ) → reg < 8 → rm < 8 → ((64 * m + 8 * reg + rm) / 8) % 8 ≡ reg
 middle_field m reg rm p q = omega arith
 
+-- its low three bits
 pub low_field : (m reg rm : ℕ) → rm < 8 → (64 * m + 8 * reg + rm) % 8 ≡ rm
 low_field m reg rm q = omega arith
+
+-- equal packed bytes have equal fields
+pub same_fields : (m reg rm m' reg' rm' : ℕ) → reg < 8 → rm < 8 → reg' < 8 → rm' < 8 → 64 * m + 8 * reg + rm ≡ 64 * m' + 8 * reg' + rm' → (m ≡ m') × (reg ≡ reg') × (rm ≡ rm')
+same_fields m reg rm m' reg' rm' p q p' q' e = (omega arith, omega arith, omega arith)
 
 -- a byte is packed from its fields
 pub packed : (n : ℕ) → 64 * (n / 64) + 8 * ((n / 8) % 8) + n % 8 ≡ n
 packed n = omega arith
 
+-- fields in range make a byte
 pub packed_below : (m reg rm : ℕ) → m < 4 → reg < 8 → rm < 8 → 64 * m + 8 * reg + rm < 256
 packed_below m reg rm p q r = omega arith
 
+-- the top field of a byte has two bits
 pub high_field_below : (n : ℕ) → n < 256 → n / 64 < 4
 high_field_below n p = omega arith
 
+-- the low field has three bits
 pub low_field_below : (n : ℕ) → n % 8 < 8
 low_field_below n = omega arith
 
@@ -29,6 +38,7 @@ low_field_below n = omega arith
 pub word_of_bytes : (n : ℕ) → n < 2 ^ 32 → n % 256 + 256 * ((n / 256) % 256) + 65536 * ((n / 65536) % 256) + 16777216 * ((n / 16777216) % 256) ≡ n
 word_of_bytes n p = omega arith
 
+-- four bytes are those of the word that they make
 pub bytes_of_word : (a b c d : ℕ) → a < 256 → b < 256 → c < 256 → d < 256 → word_bytes (a + 256 * b + 65536 * c + 16777216 * d) ≡ a ∷ b ∷ c ∷ d ∷ []
 bytes_of_word a b c d p q r s =
     let n = a + 256 * b + 65536 * c + 16777216 * d in

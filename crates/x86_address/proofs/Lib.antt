@@ -3,3 +3,5 @@ pub mod Reader
 pub mod Reading
 pub mod PlaceBytes
 pub mod Shortest
+pub mod Examples
+pub mod Spelling

@@ -5,10 +5,11 @@ use Rattle.x86_operand.specs.declared.error.DecodeError.TheVariants.{ExhaustedIn
 use Rattle.x86_address.specs.Bytes.{IsBytes}
 use Rattle.x86_address.specs.Reading.{Reading, ◌>>=◌, take_byte}
 
--- two answers that are one hold one value and one rest, and so it is with two errors
+-- two answers that are one hold one value and one rest
 pub same_read : {A : Type 0} {x y : A × List ℕ} → ◌≡◌ {A = Reading A} (Ok x) (Ok y) → x ≡ y
 same_read h = cc
 
+-- two errors that are one hold one kind and one rest
 pub same_error : {A : Type 0} {x y : DecodeError × List ℕ} → ◌≡◌ {A = Reading A} (Err x) (Err y) → x ≡ y
 same_error h = cc
 
@@ -72,13 +73,16 @@ IsReader-wider Fails Wider reader wider p = record {
 abbrev pub Answers : {A : Type 0} → (A → List ℕ → Type 0) → Reading A → Type 0
 Answers {A} P step = (value : A) (rest : List ℕ) → step ≡ Ok (value, rest) → P value rest
 
+-- a step that takes nothing answers what it is given
 pub Answers-ok : {A : Type 0} (P : A → List ℕ → Type 0) (value : A) (rest : List ℕ) → P value rest → Answers P (Ok (value, rest))
 Answers-ok P value rest p value' rest' h = subst (λ read. P read.0 read.1) (same_read h) p
 
+-- one step after another answers what the second does after the first
 pub Answers-bind : {A B : Type 0} (Q : A → List ℕ → Type 0) (P : B → List ℕ → Type 0) (step : Reading A) (next : A × List ℕ → Reading B) → Answers Q step → ((value : A) (rest : List ℕ) → Q value rest → Answers P (next (value, rest))) → Answers P (step >>= next)
 Answers-bind Q P (Ok read) next q p value rest h = p read.0 read.1 (q read.0 read.1 refl) value rest h
 Answers-bind Q P (Err error) next q p value rest h = cc
 
+-- one step or another answers what both do
 pub Answers-if : {A : Type 0} (P : A → List ℕ → Type 0) (test : Bool) (step other : Reading A) → (test ≡ true → Answers P step) → (test ≡ false → Answers P other) → Answers P (if test then step else other)
 Answers-if P true step other p q = p refl
 Answers-if P false step other p q = q refl
@@ -87,14 +91,17 @@ Answers-if P false step other p q = q refl
 abbrev pub Exhausts : DecodeError × List ℕ → Type 0
 Exhausts error = error ≡ (ExhaustedInput, [])
 
+-- a byte that is there is read whatever follows
 take_byte-more : (bytes more : List ℕ) (read : ℕ × List ℕ) → take_byte bytes ≡ Ok read → take_byte (bytes ++ more) ≡ Ok (read.0, read.1 ++ more)
 take_byte-more [] more read h = cc
 take_byte-more (byte ∷ rest) more read h = (IsReader-ok Exhausts byte).more rest more read h
 
+-- only no bytes fail
 take_byte-fails : (bytes : List ℕ) (error : DecodeError × List ℕ) → take_byte bytes ≡ Err error → Exhausts error
 take_byte-fails [] error h = cc
 take_byte-fails (byte ∷ rest) error h = cc
 
+-- a byte is read by a step of an address
 pub IsReader-take_byte : IsReader Exhausts take_byte
 IsReader-take_byte = record {
   fails = take_byte-fails;
@@ -108,6 +115,7 @@ pub record ReadsByte (bytes : List ℕ) (n : ℕ) (rest : List ℕ) : Type 0 whe
   pub written : bytes ≡ n ∷ rest
   pub left : IsBytes rest
 
+-- a byte that was read stood first
 pub take_byte-written : (bytes : List ℕ) → IsBytes bytes → Answers (ReadsByte bytes) (take_byte bytes)
 take_byte-written [] ok value rest h = cc
 take_byte-written (byte ∷ after) ok value rest h = Answers-ok (ReadsByte (byte ∷ after)) byte after (record { is_byte = ok.0; written = refl; left = ok.1 }) value rest h

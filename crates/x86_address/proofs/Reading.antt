@@ -1,25 +1,28 @@
 -- Reading and writing addresses: what is written is read again, and what is read was so written.
-use Rattle.std.proofs.Common.{◌≡◌, ◌≢◌, ◌⊎◌, ℕ, ◌+◌, ◌*◌, ◌/◌, ◌%◌, ◌^◌, ◌<◌, List, [], ◌∷◌, ◌++◌, Ok, Err, false, ◌&&◌, ◌==◌, if◌then◌else◌, refl, sym, ap, ap₂, arith, ne_eqb, eqb-true}
+use Rattle.std.proofs.Common.{◌≡◌, ◌≢◌, ◌⊎◌, ℕ, ◌+◌, ◌*◌, ◌/◌, ◌%◌, ◌^◌, ◌<◌, List, [], ◌∷◌, ◌++◌, Ok, Err, Bool, true, false, ◌&&◌, ◌==◌, if◌then◌else◌, refl, sym, ap, ap₂, ◌∙◌, arith, ne_eqb, eqb-true}
 use Rattle.std.proofs.lemmas.Bool.{eqb-false}
 use Rattle.std.proofs.lemmas.Bool.Decides.{nat_tests}
 use Rattle.x86_operand.specs.declared.error.DecodeError.{DecodeError}
 use Rattle.x86_operand.specs.declared.error.DecodeError.TheVariants.{ExhaustedInput}
-use Rattle.x86_operand.specs.Kind.{InRegister, InMemory}
+use Rattle.x86_operand.specs.Kind.{WithoutModRM, InRegister, InMemory}
 use Rattle.x86_address.specs.Bytes.{IsBytes, word_bytes, Displacement, Absent, Short, Long, IsDisplacement, displacement_bytes}
-use Rattle.x86_address.specs.Place.{Place, NoPlace, Direct, Based, RipBased, Scaled, Baseless, MayBeBase, IsPlace, kind_of, mod_of_displacement, mod_of, rm_of, tail_of}
+use Rattle.x86_address.specs.Place.{Place, NoPlace, Direct, Based, RipBased, Scaled, Baseless, MayBeBase, IsPlace, kind_of, mod_of_displacement, mod_of, rm_of, tail_of, place_bytes}
 use Rattle.x86_address.specs.Reading.{take_byte, take_word, take_short, take_long, take_displacement, take_baseless, take_scaled, take_sib, take_rip_based, take_based, take_place}
-use Rattle.x86_address.proofs.Fields.{word_of_bytes, bytes_of_word, high_field, middle_field, low_field}
+use Rattle.x86_address.proofs.Fields.{word_of_bytes, bytes_of_word, high_field, middle_field, low_field, high_field_below, low_field_below, packed}
+use Rattle.x86_address.proofs.PlaceBytes.{has_modrm, place_bytes_split, rm_of_below}
 use Rattle.x86_address.proofs.Reader.{IsReader, IsReader-ok, IsReader-bind, IsReader-if, Exhausts, Answers, Answers-ok, Answers-bind, Answers-if, ReadsByte, take_byte-written, IsReader-take_byte}
 
--- what is written is read again
+-- a word that is written is read again
 pub take_word-again : (n : ℕ) (rest : List ℕ) → n < 2 ^ 32 → take_word (word_bytes n ++ rest) ≡ Ok (n, rest)
 take_word-again n rest p = rw (word_of_bytes n p)
 
+-- a displacement that is written is read again, by the mod that it has
 pub take_displacement-again : (d : Displacement) (rest : List ℕ) → IsDisplacement d → take_displacement (mod_of_displacement d) (displacement_bytes d ++ rest) ≡ Ok (d, rest)
 take_displacement-again Absent rest p = refl
 take_displacement-again (Short n) rest p = refl
 take_displacement-again (Long n) rest p = rw (word_of_bytes n p)
 
+-- a place that is written is read again, by the mod and rm that it has
 pub take_place-again : (p : Place) (rest : List ℕ) → IsPlace p → (kind_of p ≡ InRegister) ⊎ (kind_of p ≡ InMemory) → take_place (mod_of p) (rm_of p) (tail_of p ++ rest) ≡ Ok (p, rest)
 take_place-again NoPlace rest ok k = grind arith
 take_place-again (Direct rm) rest ok k = refl
@@ -40,6 +43,7 @@ pub record ReadsWord (bytes : List ℕ) (n : ℕ) (rest : List ℕ) : Type 0 whe
   pub written : bytes ≡ word_bytes n ++ rest
   pub left : IsBytes rest
 
+-- a word that was read stood first
 pub take_word-written : (bytes : List ℕ) → IsBytes bytes → Answers (ReadsWord bytes) (take_word bytes)
 take_word-written [] ok value rest h = cc
 take_word-written (a ∷ []) ok value rest h = cc
@@ -59,14 +63,17 @@ pub record ReadsDisplacement (mode : ℕ) (bytes : List ℕ) (d : Displacement) 
   pub written : bytes ≡ displacement_bytes d ++ rest
   pub left : IsBytes rest
 
+-- mod 1 reads a byte
 take_short-written : (mode : ℕ) (bytes : List ℕ) → mode ≡ 1 → IsBytes bytes → Answers (ReadsDisplacement mode bytes) (take_short bytes)
 take_short-written mode bytes m ok =
     Answers-bind (ReadsByte bytes) (ReadsDisplacement mode bytes) _ _ (take_byte-written bytes ok) (λ n rest r. Answers-ok _ (Short n) rest (record { is_displacement = r.is_byte; mode_is = sym m; written = r.written; left = r.left }))
 
+-- mod 2 reads a word
 take_long-written : (mode : ℕ) (bytes : List ℕ) → mode ≡ 2 → IsBytes bytes → Answers (ReadsDisplacement mode bytes) (take_long bytes)
 take_long-written mode bytes m ok =
     Answers-bind (ReadsWord bytes) (ReadsDisplacement mode bytes) _ _ (take_word-written bytes ok) (λ n rest r. Answers-ok _ (Long n) rest (record { is_displacement = r.is_word; mode_is = sym m; written = r.written; left = r.left }))
 
+-- each mod but 3 reads the displacement that it says
 pub take_displacement-written : (mode : ℕ) (bytes : List ℕ) → mode < 3 → IsBytes bytes → Answers (ReadsDisplacement mode bytes) (take_displacement mode bytes)
 take_displacement-written mode bytes m ok =
     Answers-if _ _ _ _ (λ none. Answers-ok _ Absent bytes (record { is_displacement = tt; mode_is = sym (eqb-true mode 0 none); written = refl; left = ok })) (λ some. Answers-if _ _ _ _ (λ one. take_short-written mode bytes (eqb-true mode 1 one) ok) (λ more. take_long-written mode bytes (omega (arith, eqb-false mode 0 some, eqb-false mode 1 more)) ok))
@@ -86,6 +93,7 @@ base_by_mode field Absent mode m h = λ e. grind (arith, nat_tests)
 base_by_mode field (Short n) mode m h = tt
 base_by_mode field (Long n) mode m h = tt
 
+-- a base register
 take_based-written : (mode rm : ℕ) (bytes : List ℕ) → mode < 3 → rm < 8 → rm ≢ 4 → (mode == 0 && rm == 5) ≡ false → IsBytes bytes → Answers (ReadsPlace mode rm bytes) (take_based mode rm bytes)
 take_based-written mode rm bytes m r four base ok =
     Answers-bind (ReadsDisplacement mode bytes) _ _ _ (take_displacement-written mode bytes m ok) (λ d rest read. Answers-ok _ (Based rm d) rest (record {
@@ -97,6 +105,7 @@ take_based-written mode rm bytes m r four base ok =
       left = read.left;
     }))
 
+-- the instruction pointer
 take_rip_based-written : (mode rm : ℕ) (bytes : List ℕ) → mode ≡ 0 → rm ≡ 5 → IsBytes bytes → Answers (ReadsPlace mode rm bytes) (take_rip_based bytes)
 take_rip_based-written mode rm bytes m r ok =
     Answers-bind (ReadsWord bytes) _ _ _ (take_word-written bytes ok) (λ n rest read. Answers-ok _ (RipBased n) rest (record {
@@ -108,6 +117,7 @@ take_rip_based-written mode rm bytes m r ok =
       left = read.left;
     }))
 
+-- SIB without a base
 take_baseless-written : (mode sib : ℕ) (bytes : List ℕ) → mode ≡ 0 → sib < 256 → sib % 8 ≡ 5 → IsBytes bytes → Answers (ReadsPlace mode 4 (sib ∷ bytes)) (take_baseless sib bytes)
 take_baseless-written mode sib bytes m s five ok =
     Answers-bind (ReadsWord bytes) _ _ _ (take_word-written bytes ok) (λ n rest read. Answers-ok _ (Baseless (sib / 64) ((sib / 8) % 8) n) rest (record {
@@ -119,6 +129,7 @@ take_baseless-written mode sib bytes m s five ok =
       left = read.left;
     }))
 
+-- SIB with a base
 take_scaled-written : (mode sib : ℕ) (bytes : List ℕ) → mode < 3 → sib < 256 → (mode == 0 && sib % 8 == 5) ≡ false → IsBytes bytes → Answers (ReadsPlace mode 4 (sib ∷ bytes)) (take_scaled mode sib bytes)
 take_scaled-written mode sib bytes m s base ok =
     Answers-bind (ReadsDisplacement mode bytes) _ _ _ (take_displacement-written mode bytes m ok) (λ d rest read. Answers-ok _ (Scaled (sib / 64) ((sib / 8) % 8) (sib % 8) d) rest (record {
@@ -130,10 +141,12 @@ take_scaled-written mode sib bytes m s base ok =
       left = read.left;
     }))
 
+-- SIB
 take_sib-written : (mode rm : ℕ) (bytes : List ℕ) → mode < 3 → rm ≡ 4 → IsBytes bytes → Answers (ReadsPlace mode rm bytes) (take_sib mode bytes)
 take_sib-written mode rm bytes m r ok =
     Answers-bind (ReadsByte bytes) _ _ _ (take_byte-written bytes ok) (λ sib after read. rw (r, read.written) (Answers-if _ _ _ _ (λ none. take_baseless-written mode sib after (grind (arith, nat_tests)) read.is_byte (grind (arith, nat_tests)) read.left) (λ based. take_scaled-written mode sib after m read.is_byte based read.left)))
 
+-- what is read as a place stood first
 pub take_place-written : (mode rm : ℕ) (bytes : List ℕ) → mode < 4 → rm < 8 → IsBytes bytes → Answers (ReadsPlace mode rm bytes) (take_place mode rm bytes)
 take_place-written mode rm bytes m r ok =
     Answers-if _ _ _ _ (λ three. Answers-ok _ (Direct rm) bytes (record {
@@ -145,39 +158,80 @@ take_place-written mode rm bytes m r ok =
       left = ok;
     })) (λ memory. let below : mode < 3 = omega (arith, eqb-false mode 3 memory) in Answers-if _ _ _ _ (λ four. take_sib-written mode rm bytes below (eqb-true rm 4 four) ok) (λ other. Answers-if _ _ _ _ (λ rip. take_rip_based-written mode rm bytes (grind (arith, nat_tests)) (grind (arith, nat_tests)) ok) (λ based. take_based-written mode rm bytes below r (eqb-false rm 4 other) based ok)))
 
--- the steps of an address fail only where no byte is left, and more bytes after those that are read change nothing
+-- what is read has a ModRM byte, and with it those are the bytes of the place
+pub read_has_modrm : (mode rm : ℕ) (bytes : List ℕ) (p : Place) (rest : List ℕ) → ReadsPlace mode rm bytes p rest → (kind_of p ≡ InRegister) ⊎ (kind_of p ≡ InMemory)
+read_has_modrm mode rm bytes p rest read = has_modrm p (λ none. by_test _ (sym read.kind_is ∙ none))
+  where
+    by_test : (test : Bool) → (if test then InRegister else InMemory) ≢ WithoutModRM
+    by_test true h = cc
+    by_test false h = cc
+
+-- the place that follows a ModRM byte
+pub record ReadsModRM (modrm : ℕ) (bytes : List ℕ) (p : Place) (rest : List ℕ) : Type 0 where
+  pub is_place : IsPlace p
+  pub has_modrm : (kind_of p ≡ InRegister) ⊎ (kind_of p ≡ InMemory)
+  pub kind_is : kind_of p ≡ (if modrm / 64 == 3 then InRegister else InMemory)
+  pub written : modrm ∷ bytes ≡ place_bytes ((modrm / 8) % 8) p ++ rest
+  pub left : IsBytes rest
+
+-- what is read after ModRM stood there
+pub modrm-written : (modrm : ℕ) (bytes : List ℕ) → modrm < 256 → IsBytes bytes → Answers (ReadsModRM modrm bytes) (take_place (modrm / 64) (modrm % 8) bytes)
+modrm-written modrm bytes below ok p rest h =
+    let read = take_place-written (modrm / 64) (modrm % 8) bytes (high_field_below modrm below) (low_field_below modrm) ok p rest h in
+    let has = read_has_modrm (modrm / 64) (modrm % 8) bytes p rest read in
+    record {
+      is_place = read.is_place;
+      has_modrm = has;
+      kind_is = read.kind_is;
+      written = rw (place_bytes_split ((modrm / 8) % 8) p has, read.mod_is, read.rm_is, packed modrm) (ap (λ bytes. modrm ∷ bytes) read.written);
+      left = read.left;
+    }
+
+-- what is written after ModRM is read again
+pub modrm-again : (reg : ℕ) (p : Place) (modrm : ℕ) (rest : List ℕ) → reg < 8 → IsPlace p → (kind_of p ≡ InRegister) ⊎ (kind_of p ≡ InMemory) → modrm ≡ 64 * mod_of p + 8 * reg + rm_of p → take_place (modrm / 64) (modrm % 8) (tail_of p ++ rest) ≡ Ok (p, rest)
+modrm-again reg p modrm rest below ok has e =
+    rw (e, high_field (mod_of p) reg (rm_of p) below (rm_of_below p ok), low_field (mod_of p) reg (rm_of p) (rm_of_below p ok)) (take_place-again p rest ok has)
+
+-- the step of a word
 pub IsReader-take_word : IsReader Exhausts take_word
 IsReader-take_word =
     IsReader-bind _ take_byte _ IsReader-take_byte (λ a. IsReader-bind _ take_byte _ IsReader-take_byte (λ b. IsReader-bind _ take_byte _ IsReader-take_byte (λ c. IsReader-bind _ take_byte _ IsReader-take_byte (λ d. IsReader-ok _ _))))
 
+-- the step of a displacement
 pub IsReader-take_displacement : (mode : ℕ) → IsReader Exhausts (take_displacement mode)
 IsReader-take_displacement mode =
     IsReader-if _ _ _ _ (IsReader-ok _ Absent) (IsReader-if _ _ _ _ (IsReader-bind _ take_byte _ IsReader-take_byte (λ n. IsReader-ok _ (Short n))) (IsReader-bind _ take_word _ IsReader-take_word (λ n. IsReader-ok _ (Long n))))
 
+-- the step of SIB and what follows it
 pub IsReader-take_sib : (mode : ℕ) → IsReader Exhausts (take_sib mode)
 IsReader-take_sib mode =
     IsReader-bind _ take_byte _ IsReader-take_byte (λ sib. IsReader-if _ _ _ _ (IsReader-bind _ take_word _ IsReader-take_word (λ n. IsReader-ok _ _)) (IsReader-bind _ (take_displacement mode) _ (IsReader-take_displacement mode) (λ d. IsReader-ok _ _)))
 
+-- the step of all that follows ModRM
 pub IsReader-take_place : (mode rm : ℕ) → IsReader Exhausts (take_place mode rm)
 IsReader-take_place mode rm =
     IsReader-if _ _ _ _ (IsReader-ok _ _) (IsReader-if _ _ _ _ (IsReader-take_sib mode) (IsReader-if _ _ _ _ (IsReader-bind _ take_word _ IsReader-take_word (λ n. IsReader-ok _ _)) (IsReader-bind _ (take_displacement mode) _ (IsReader-take_displacement mode) (λ d. IsReader-ok _ _))))
 
--- a failure says that no byte is left
+-- reading a byte fails only where no byte is left
 pub take_byte-fails : (bytes : List ℕ) (error : DecodeError × List ℕ) → take_byte bytes ≡ Err error → error ≡ (ExhaustedInput, [])
 take_byte-fails = IsReader-take_byte.fails
 
+-- reading a word fails only where no byte is left
 pub take_word-fails : (bytes : List ℕ) (error : DecodeError × List ℕ) → take_word bytes ≡ Err error → error ≡ (ExhaustedInput, [])
 take_word-fails = IsReader-take_word.fails
 
+-- reading a place fails only where no byte is left
 pub take_place-fails : (mode rm : ℕ) (bytes : List ℕ) (error : DecodeError × List ℕ) → take_place mode rm bytes ≡ Err error → error ≡ (ExhaustedInput, [])
 take_place-fails mode rm = (IsReader-take_place mode rm).fails
 
--- more bytes after those that are read change nothing
+-- bytes after the one that is read change nothing
 pub take_byte-more : (bytes more : List ℕ) (n : ℕ) (rest : List ℕ) → take_byte bytes ≡ Ok (n, rest) → take_byte (bytes ++ more) ≡ Ok (n, rest ++ more)
 take_byte-more bytes more n rest = IsReader-take_byte.more bytes more (n, rest)
 
+-- bytes after those that are read change nothing
 pub take_word-more : (bytes more : List ℕ) (n : ℕ) (rest : List ℕ) → take_word bytes ≡ Ok (n, rest) → take_word (bytes ++ more) ≡ Ok (n, rest ++ more)
 take_word-more bytes more n rest = IsReader-take_word.more bytes more (n, rest)
 
+-- bytes after those that are read change nothing
 pub take_place-more : (mode rm : ℕ) (bytes more : List ℕ) (p : Place) (rest : List ℕ) → take_place mode rm bytes ≡ Ok (p, rest) → take_place mode rm (bytes ++ more) ≡ Ok (p, rest ++ more)
 take_place-more mode rm bytes more p rest = (IsReader-take_place mode rm).more bytes more (p, rest)

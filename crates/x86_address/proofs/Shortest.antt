@@ -1,7 +1,6 @@
 -- The shortest place of a target: it is a place, it names what any place names, and none is shorter.
-use Rattle.std.proofs.Common.{◌≡◌, ◌≢◌, ◌⊎◌, inl, inr, ℕ, zero, suc, ◌+◌, ◌-◌, ◌*◌, ◌%◌, ◌^◌, ◌<◌, ◌≤◌, ℤ, pos, negsuc, Bool, true, false, not, ◌&&◌, ◌||◌, nat_lt, ◌==◌, length, Option, Some, None, if◌then◌else◌, FitsSigned, refl, sym, ap, ◌∙◌, subst, arith, ne_eqb, eqb-true, eq-eqb, le-ltb, ltb-true, ltb-false, rules, w8, w32}
-use Rattle.std.specs.Int.{Width, cast_signed}
-use mir.Val.{hbits, bits}
+use Rattle.std.proofs.Common.{◌≡◌, ◌≢◌, ◌⊎◌, inl, inr, ℕ, zero, suc, ◌+◌, ◌-◌, ◌*◌, ◌%◌, ◌^◌, ◌<◌, ◌≤◌, ℤ, pos, negsuc, Bool, true, false, not, ◌&&◌, ◌||◌, nat_lt, ◌==◌, length, Option, Some, None, if◌then◌else◌, FitsSigned, refl, sym, ap, ◌∙◌, subst, arith, ne_eqb, eqb-true, eq-eqb, ltb-true, ltb-false, rules, w8, w32}
+use Rattle.std.specs.Int.{cast_signed}
 use Rattle.std.proofs.lemmas.Bool.{eqb-false, cond_both, or_parts}
 use Rattle.std.proofs.lemmas.Bool.Decides.{nat_tests}
 use Rattle.std.proofs.lemmas.Int.{ints}
@@ -14,7 +13,8 @@ use Rattle.x86_address.specs.Shortest.{plain, plain_base, plain_index, in_banks,
 
 -- ---- displacements
 
-word_of_below : (z : ℤ) → word_of z < 2 ^ 32
+-- a word has 32 bits
+pub word_of_below : (z : ℤ) → word_of z < 2 ^ 32
 word_of_below (pos n) = omega arith
 word_of_below (negsuc n) = omega arith
 
@@ -26,20 +26,23 @@ data IsShortest (must : Bool) : ℤ → Displacement → Type 0 where
   short_negative : {n : ℕ} → n < 128 → IsShortest must (negsuc n) (Short (255 - n))
   long_negative : {n : ℕ} → 128 ≤ n → IsShortest must (negsuc n) (Long (word_of (negsuc n)))
 
+-- the choice at 0 and above, by its tests
 chosen : (must : Bool) (n : ℕ) (none small : Bool) → (n == 0 && not must) ≡ none → nat_lt n 128 ≡ small → IsShortest must (pos n) (if none then Absent else if small then Short n else Long (word_of (pos n)))
 chosen must n true small e f = absent (grind (arith, nat_tests)) (grind (arith, nat_tests))
 chosen must n false true e f = short (ltb-true n 128 f) (λ z. grind (arith, nat_tests))
 chosen must n false false e f = long (ltb-false n 128 f)
 
+-- the choice below 0, by its test
 chosen_negative : (must : Bool) (n : ℕ) (small : Bool) → nat_lt n 128 ≡ small → IsShortest must (negsuc n) (if small then Short (255 - n) else Long (word_of (negsuc n)))
 chosen_negative must n true f = short_negative (ltb-true n 128 f)
 chosen_negative must n false f = long_negative (ltb-false n 128 f)
 
+-- the definition makes that choice
 is_shortest : (must : Bool) (z : ℤ) → IsShortest must z (shortest_displacement must z)
 is_shortest must (pos n) = chosen must n _ _ refl refl
 is_shortest must (negsuc n) = chosen_negative must n _ refl
 
--- it is a displacement, which a base 5 may have where it has to be written, and it has the value
+-- it is a displacement
 IsDisplacement-shortest : {must : Bool} {z : ℤ} {d : Displacement} → IsShortest must z d → IsDisplacement d
 IsDisplacement-shortest (absent e f) = tt
 IsDisplacement-shortest (short l e) = omega arith
@@ -47,6 +50,7 @@ IsDisplacement-shortest (long {n = n} l) = word_of_below (pos n)
 IsDisplacement-shortest (short_negative l) = omega arith
 IsDisplacement-shortest (long_negative {n = n} l) = word_of_below (negsuc n)
 
+-- it may stand beside the base whose field it was chosen for
 MayBeBase-shortest : (field : ℕ) {z : ℤ} {d : Displacement} → IsShortest (field == 5) z d → MayBeBase field d
 MayBeBase-shortest field (absent e f) = eqb-false field 5 f
 MayBeBase-shortest field (short l e) = tt
@@ -54,19 +58,25 @@ MayBeBase-shortest field (long l) = tt
 MayBeBase-shortest field (short_negative l) = tt
 MayBeBase-shortest field (long_negative l) = tt
 
--- the value of a number whose top bit is set
-cast_high : (w : Width) (n m : ℕ) → 2 ^ hbits w ≤ n → 2 ^ bits w ≡ n + suc m → cast_signed w n ≡ negsuc m
-cast_high w n m h e = rw (le-ltb n (2 ^ hbits w) h) (ap negsuc (omega arith))
+-- the value of a byte whose top bit is set
+high_byte : (n : ℕ) → n < 128 → cast_signed w8 (255 - n) ≡ negsuc n
+high_byte n h = grind (arith, ints)
 
+-- the value of a word whose top bit is set
+high_word : (n : ℕ) → n < 2 ^ 31 → cast_signed w32 ((2 ^ 32 - 1 - n) % 2 ^ 32) ≡ negsuc n
+high_word n h = grind (arith, ints)
+
+-- the word of a value has that value
 value_of_word : (z : ℤ) → FitsSigned w32 z → cast_signed w32 (word_of z) ≡ z
 value_of_word (pos n) h = omega (arith, ints)
-value_of_word (negsuc n) h = cast_high w32 _ n (omega (arith, h.sfits)) (omega (arith, h.sfits))
+value_of_word (negsuc n) h = high_word n (omega arith)
 
+-- it has the value that it was chosen for
 value-shortest : {must : Bool} {z : ℤ} {d : Displacement} → IsShortest must z d → FitsSigned w32 z → displacement_value d ≡ z
 value-shortest (absent e f) h = ap pos (sym e)
 value-shortest (short l e) h = omega (arith, ints)
 value-shortest (long {n = n} l) h = value_of_word (pos n) h
-value-shortest (short_negative {n = n} l) h = cast_high w8 (255 - n) n (omega arith) (omega arith)
+value-shortest (short_negative {n = n} l) h = high_byte n l
 value-shortest (long_negative {n = n} l) h = value_of_word (negsuc n) h
 
 -- the value of a displacement has 32 bits
@@ -89,27 +99,29 @@ shortest_displacement-least must z d least (long_negative l) v ok h = absurd (om
 -- ---- numbers of registers, and indices
 
 -- a number below 16 is its low three bits and its top bit
-number_again : (n : ℕ) → n < 16 → n % 8 + 8 * bit (is_upper n) ≡ n
+pub number_again : (n : ℕ) → n < 16 → n % 8 + 8 * bit (is_upper n) ≡ n
 number_again n h = grind (arith, nat_tests)
 
 -- a field of three bits and a top bit are a number below 16
-numbered_below : (field : ℕ) (b : Bool) → field < 8 → field + 8 * bit b < 16
+pub numbered_below : (field : ℕ) (b : Bool) → field < 8 → field + 8 * bit b < 16
 numbered_below field true h = omega arith
 numbered_below field false h = omega arith
 
 -- the top bit is what was added to three bits
-is_upper-field : (field : ℕ) (b : Bool) → field < 8 → is_upper (field + 8 * bit b) ≡ b
+pub is_upper-field : (field : ℕ) (b : Bool) → field < 8 → is_upper (field + 8 * bit b) ≡ b
 is_upper-field field true h = eq-eqb _ 1 (omega arith)
 is_upper-field field false h = ne_eqb _ 1 (omega arith)
 
-low_field_again : (field : ℕ) (b : Bool) → field < 8 → (field + 8 * bit b) % 8 ≡ field
+-- the low three bits are the field
+pub low_field_again : (field : ℕ) (b : Bool) → field < 8 → (field + 8 * bit b) % 8 ≡ field
 low_field_again field true h = omega arith
 low_field_again field false h = omega arith
 
--- the exponent of a scale
+-- an exponent has two bits
 exponent_below : (scale : ℕ) → exponent_of scale < 4
 exponent_below scale = grind (arith, nat_tests)
 
+-- the exponent of a power of 2 is its exponent
 exponent_again : (k : ℕ) → k < 4 → exponent_of (2 ^ k) ≡ k
 exponent_again zero h = refl
 exponent_again (suc zero) h = refl
@@ -117,22 +129,24 @@ exponent_again (suc (suc zero)) h = refl
 exponent_again (suc (suc (suc zero))) h = refl
 exponent_again (suc (suc (suc (suc k)))) h = absurd (omega arith)
 
--- the fields of an index fit their bits, and name it again
+-- the exponent field of an index has two bits
 exponent_field_below : (index : Option (ℕ × ℕ)) → exponent_field index < 4
 exponent_field_below None = omega arith
 exponent_field_below (Some index) = exponent_below index.1
 
+-- the index field of an index has three bits
 index_field_below : (index : Option (ℕ × ℕ)) → index_field index < 8
 index_field_below None = omega arith
 index_field_below (Some index) = omega arith
 
+-- the fields and X of an index name it
 index_again : (index : Option (ℕ × ℕ)) → IsIndex index → index_of (exponent_field index) (index_field index) (x_of_index index) ≡ index
 index_again None ok = refl
 index_again (Some index) ok =
     let number = number_again index.0 ok.0 in
     rw (number, ne_eqb index.0 4 ok.1) (ap (λ scale. Some (index.0, scale)) (rw (ok.4, exponent_again ok.2 ok.3)))
 
--- what a place names is an index, and its X is the bit handed in
+-- fields and X name an index in range
 IsIndex-index_of : (k i : ℕ) (x : Bool) → k < 4 → i < 8 → IsIndex (index_of k i x)
 IsIndex-index_of k i x p q = by_test (i + 8 * bit x) (numbered_below i x q) _ refl
   where
@@ -140,6 +154,7 @@ IsIndex-index_of k i x p q = by_test (i + 8 * bit x) (numbered_below i x q) _ re
     by_test n h true e = tt
     by_test n h false e = (h, eqb-false n 4 e, k, p, refl)
 
+-- its X is the bit handed in
 x_of-index_of : (k i : ℕ) (x : Bool) → i < 8 → x_of_index (index_of k i x) ≡ x
 x_of-index_of k i x p = by_test (i + 8 * bit x) (is_upper-field i x p) _ refl
   where
@@ -154,7 +169,7 @@ numbered_either : (P : Place → Type 0) (n : ℕ) (index : Option (ℕ × ℕ))
 numbered_either P n index z scaled based =
     cond_both (has_index index || n % 8 == 4) _ _ P scaled (λ none. based (or_parts _ _ none).0 (eqb-false (n % 8) 4 (or_parts _ _ none).1))
 
--- it is a place
+-- with a base register it is a place
 IsPlace-place_of_numbered : (n : ℕ) (index : Option (ℕ × ℕ)) (z : ℤ) → IsPlace (place_of_numbered n index z)
 IsPlace-place_of_numbered n index z =
     let d = is_shortest (n % 8 == 5) z in
@@ -162,23 +177,26 @@ IsPlace-place_of_numbered n index z =
     (λ sib. (exponent_field_below index, index_field_below index, omega arith, MayBeBase-shortest (n % 8) d, IsDisplacement-shortest d))
     (λ none other. (omega arith, other, MayBeBase-shortest (n % 8) d, IsDisplacement-shortest d))
 
+-- with each base it is a place
 IsPlace-place_of_base : (base : Base) (index : Option (ℕ × ℕ)) (z : ℤ) → IsPlace (place_of_base base index z)
 IsPlace-place_of_base NoBase index z = (exponent_field_below index, index_field_below index, word_of_below z)
 IsPlace-place_of_base Rip index z = word_of_below z
 IsPlace-place_of_base (Numbered n) index z = IsPlace-place_of_numbered n index z
 
+-- the shortest place is a place
 pub is_place-shortest : (e : Target) → IsPlace (shortest e)
 unfolding shortest
 is_place-shortest NoTarget = tt
 is_place-shortest (Number n) = omega arith
 is_place-shortest (At a) = IsPlace-place_of_base a.base a.index a.disp
 
--- its kind is the target's
+-- that of an address is in memory
 kind_of_base : (base : Base) (index : Option (ℕ × ℕ)) (z : ℤ) → kind_of (place_of_base base index z) ≡ InMemory
 kind_of_base NoBase index z = refl
 kind_of_base Rip index z = refl
 kind_of_base (Numbered n) index z = numbered_either (λ p. kind_of p ≡ InMemory) n index z (λ sib. refl) (λ none other. refl)
 
+-- its kind is the target's
 pub kind_of-shortest : (e : Target) → kind_of (shortest e) ≡ kind_of_target e
 unfolding shortest
 kind_of-shortest NoTarget = refl
@@ -194,11 +212,12 @@ kind_of_target-target (RipBased n) x b = refl
 kind_of_target-target (Scaled k i j d) x b = refl
 kind_of_target-target (Baseless k i n) x b = refl
 
+-- an index that isn't there
 no_index : (index : Option (ℕ × ℕ)) → has_index index ≡ false → index ≡ None
 no_index None h = refl
 no_index (Some index) h = cc
 
--- it names a spellable address
+-- the place of an address that bytes can name names it
 named_again : (base : Base) (index : Option (ℕ × ℕ)) (z : ℤ) → IsBase base → IsIndex index → FitsSigned w32 z → (base ≡ Rip → index ≡ None) → target (place_of_base base index z) (x_of_index index) (b_of_base base) ≡ At (record { base = base; index = index; disp = z })
 named_again NoBase index z p q fits alone = rw (index_again index q, value_of_word z fits)
 named_again Rip index z p q fits alone = rw (value_of_word z fits, alone refl)
@@ -208,13 +227,14 @@ named_again (Numbered n) index z p q fits alone =
     (λ sib. rw (number_again n p, index_again index q, d))
     (λ none other. rw (number_again n p, d, no_index index none))
 
+-- the shortest place names each target that bytes can name, with the bits that it demands
 pub names-shortest : (e : Target) → IsSpellable e → target (shortest e) (x_of e) (b_of e) ≡ e
 unfolding shortest
 names-shortest NoTarget ok = refl
 names-shortest (Number n) ok = ap Number (number_again n ok)
 names-shortest (At a) ok = named_again a.base a.index a.disp ok.base ok.index ok.disp ok.alone
 
--- what a place names can be spelled
+-- what a place names, bytes can name
 pub IsSpellable-target : (p : Place) (x b : Bool) → IsPlace p → IsSpellable (target p x b)
 IsSpellable-target NoPlace x b ok = tt
 IsSpellable-target (Direct rm) x b ok = numbered_below rm b ok
@@ -253,10 +273,11 @@ not_absent field Absent base five = absurd (base (eqb-true field 5 five))
 not_absent field (Short n) base five = λ e. cc
 not_absent field (Long n) base five = λ e. cc
 
+-- no displacement of its value beside a base field is shorter than the one chosen
 least_displacement : (n field : ℕ) (d : Displacement) → field ≡ n → MayBeBase field d → IsDisplacement d → length (displacement_bytes (shortest_displacement (n == 5) (displacement_value d))) ≤ length (displacement_bytes d)
 least_displacement n field d e base ok = subst (λ m. length (displacement_bytes (shortest_displacement (m == 5) (displacement_value d))) ≤ length (displacement_bytes d)) e (shortest_displacement-least (field == 5) (displacement_value d) d _ (is_shortest (field == 5) (displacement_value d)) refl ok (not_absent field d base))
 
--- no place that names it has fewer bytes
+-- with a base register, none with SIB is shorter
 least_numbered : (reg field : ℕ) (b : Bool) (index : Option (ℕ × ℕ)) (d : Displacement) → field < 8 → MayBeBase field d → IsDisplacement d → length (place_bytes reg (place_of_numbered (field + 8 * bit b) index (displacement_value d))) ≤ suc (suc (length (displacement_bytes d)))
 least_numbered reg field b index d below base ok =
     let least = least_displacement ((field + 8 * bit b) % 8) field d (sym (low_field_again field b below)) base ok in
@@ -264,6 +285,7 @@ least_numbered reg field b index d below base ok =
     (λ sib. omega arith)
     (λ none other. omega arith)
 
+-- without an index and with another base field than 4, none is shorter
 least_based : (reg rm : ℕ) (b : Bool) (d : Displacement) → rm < 8 → rm ≢ 4 → MayBeBase rm d → IsDisplacement d → length (place_bytes reg (place_of_numbered (rm + 8 * bit b) None (displacement_value d))) ≤ suc (length (displacement_bytes d))
 least_based reg rm b d below four base ok =
     let least = least_displacement ((rm + 8 * bit b) % 8) rm d (sym (low_field_again rm b below)) base ok in
@@ -271,6 +293,7 @@ least_based reg rm b d below four base ok =
     (λ sib. absurd (four (sym (low_field_again rm b below) ∙ eqb-true _ 4 sib)))
     (λ none other. omega arith)
 
+-- no place that names the target has fewer bytes
 pub shortest-least : (p : Place) (x b : Bool) (reg reg' : ℕ) → IsPlace p → length (place_bytes reg (shortest (target p x b))) ≤ length (place_bytes reg' p)
 unfolding shortest
 shortest-least NoPlace x b reg reg' ok = omega arith
@@ -280,7 +303,7 @@ shortest-least (RipBased n) x b reg reg' ok = omega arith
 shortest-least (Scaled k i j d) x b reg reg' ok = least_numbered reg j b (index_of k i x) d ok.2 ok.3 ok.4
 shortest-least (Baseless k i n) x b reg reg' ok = omega arith
 
--- X and B are fixed by the target, or play no part
+-- X plays no part, or is the bit that the target demands
 pub x_fixed_or_ignored : (p : Place) (x b : Bool) → IsPlace p → ((x' : Bool) → target p x' b ≡ target p x b) ⊎ (x_of (target p x b) ≡ x)
 x_fixed_or_ignored NoPlace x b ok = inl (λ x'. refl)
 x_fixed_or_ignored (Direct rm) x b ok = inl (λ x'. refl)
@@ -289,6 +312,7 @@ x_fixed_or_ignored (RipBased n) x b ok = inl (λ x'. refl)
 x_fixed_or_ignored (Scaled k i j d) x b ok = inr (x_of-index_of k i x ok.1)
 x_fixed_or_ignored (Baseless k i n) x b ok = inr (x_of-index_of k i x ok.1)
 
+-- B plays no part, or is the bit that the target demands
 pub b_fixed_or_ignored : (p : Place) (x b : Bool) → IsPlace p → ((b' : Bool) → target p x b' ≡ target p x b) ⊎ (b_of (target p x b) ≡ b)
 b_fixed_or_ignored NoPlace x b ok = inl (λ b'. refl)
 b_fixed_or_ignored (Direct rm) x b ok = inr (is_upper-field rm b ok)
@@ -297,7 +321,7 @@ b_fixed_or_ignored (RipBased n) x b ok = inl (λ b'. refl)
 b_fixed_or_ignored (Scaled k i j d) x b ok = inr (is_upper-field j b ok.2)
 b_fixed_or_ignored (Baseless k i n) x b ok = inl (λ b'. refl)
 
--- a bit that the target demands is set
+-- where the target demands X, it is 1
 pub x_of-target : (p : Place) (x b : Bool) → IsPlace p → x_of (target p x b) ≡ true → x ≡ true
 x_of-target NoPlace x b ok h = cc
 x_of-target (Direct rm) x b ok h = cc
@@ -306,6 +330,7 @@ x_of-target (RipBased n) x b ok h = cc
 x_of-target (Scaled k i j d) x b ok h = sym (x_of-index_of k i x ok.1) ∙ h
 x_of-target (Baseless k i n) x b ok h = sym (x_of-index_of k i x ok.1) ∙ h
 
+-- where the target demands B, it is 1
 pub b_of-target : (p : Place) (x b : Bool) → IsPlace p → b_of (target p x b) ≡ true → b ≡ true
 b_of-target NoPlace x b ok h = cc
 b_of-target (Direct rm) x b ok h = sym (is_upper-field rm b ok) ∙ h
@@ -316,15 +341,17 @@ b_of-target (Baseless k i n) x b ok h = cc
 
 -- ---- banks
 
+-- a base that gets a bank and loses it
 plain_base-register : (base : Base) → plain_base (base_register base) ≡ base
 plain_base-register NoBase = refl
 plain_base-register Rip = refl
 plain_base-register (Numbered n) = refl
 
+-- an index that gets a bank and loses it
 plain_index-register : (bank : RegisterBank) (index : Option (ℕ × ℕ)) → plain_index (index_register bank index) ≡ index
 plain_index-register bank None = refl
 plain_index-register bank (Some index) = refl
 
--- the banks are forgotten again
+-- an address that gets banks and loses them is as before
 pub plain-in_banks : (bank : RegisterBank) (a : PlainAddress) → plain (in_banks bank a) ≡ a
 plain-in_banks bank a = λ i. record { base = plain_base-register a.base i; index = plain_index-register bank a.index i; disp = a.disp }

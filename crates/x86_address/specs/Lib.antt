@@ -2,3 +2,4 @@ pub mod Bytes
 pub mod Place
 pub mod Shortest
 pub mod Reading
+pub mod Laws

@@ -114,6 +114,7 @@ target (Baseless k i n) x b = At (record { base = NoBase; index = index_of k i x
 
 -- the bytes spell what is named, of this kind, with this reg field and these bits X and B
 pub record SpellsTarget (bytes : List ℕ) (kind : Kind) (reg : ℕ) (x b : Bool) (named : Target) : Type 0 where
+  pub is_reg : reg < 8
   pub place : Place
   pub is_place : IsPlace place
   pub is_kind : kind_of place ≡ kind

@@ -1,2 +1,5 @@
 pub mod Listed
+pub mod Tags
 pub mod Numbers
+pub mod Vex
+pub mod VexOpcodes

@@ -186,7 +186,7 @@ legacy_name legacy.INVEPT = codes "INVEPT"
 legacy_name legacy.INVVPID = codes "INVVPID"
 legacy_name legacy.HRESET = codes "HRESET"
 
--- the name of an opcode: vEX instructions on integers, on general registers, and on no operand
+-- the name of an opcode: VEX instructions on integers, on general registers, and on no operand
 unfoldable pub integer_name : IntegerOpcode → List ℕ
 integer_name integer.ANDN = codes "ANDN"
 integer_name integer.BEXTR = codes "BEXTR"
@@ -362,7 +362,7 @@ integer_name integer.VPXOR = codes "VPXOR"
 integer_name integer.VZEROALL = codes "VZEROALL"
 integer_name integer.VZEROUPPER = codes "VZEROUPPER"
 
--- the name of an opcode: vEX instructions on packed and scalar floats
+-- the name of an opcode: VEX instructions on packed and scalar floats
 unfoldable pub float_name : FloatOpcode → List ℕ
 float_name float.VCVTPH2PS = codes "VCVTPH2PS"
 float_name float.VCVTPS2PH = codes "VCVTPS2PH"

@@ -186,7 +186,7 @@ legacy_number legacy.INVEPT = 167
 legacy_number legacy.INVVPID = 168
 legacy_number legacy.HRESET = 169
 
--- the place of an opcode in its part: vEX instructions on integers, on general registers, and on no operand
+-- the place of an opcode in its part: VEX instructions on integers, on general registers, and on no operand
 abbrev pub integer_number : IntegerOpcode → ℕ
 integer_number integer.ANDN = 0
 integer_number integer.BEXTR = 1
@@ -362,7 +362,7 @@ integer_number integer.VPXOR = 170
 integer_number integer.VZEROALL = 171
 integer_number integer.VZEROUPPER = 172
 
--- the place of an opcode in its part: vEX instructions on packed and scalar floats
+-- the place of an opcode in its part: VEX instructions on packed and scalar floats
 abbrev pub float_number : FloatOpcode → ℕ
 float_number float.VCVTPH2PS = 0
 float_number float.VCVTPS2PH = 1

@@ -1,8 +1,9 @@
-// The constants and the names of a part, written by tools/opcodes.py.
+// The constants, the names and the conditions of a part, written by tools/opcodes.py.
 ghost use Rattle.std.specs.Prelude.{◌≡◌, Some};
+ghost use Rattle.x86_opcode.specs.Condition.{float_condition};
 ghost use Rattle.x86_opcode.specs.Name.{float_name};
 
-use crate::{FloatOpcode, Opcode};
+use crate::{Condition, FloatOpcode, Opcode};
 use std::fmt;
 
 /// VEX instructions on packed and scalar floats.
@@ -402,6 +403,17 @@ impl FloatOpcode {
             FloatOpcode::VUNPCKLPS => "VUNPCKLPS",
             FloatOpcode::VXORPD => "VXORPD",
             FloatOpcode::VXORPS => "VXORPS",
+        }
+    }
+
+    /// What the settings must say to permit the opcode without the EVEX mark.
+    #[tactic(auto, unfolding(crate::specs::Condition::float_condition))]
+    pub fn condition(self) -> Condition
+        ensures { result ≡ float_condition self }
+    {
+        match self {
+            FloatOpcode::VCVTPH2PS | FloatOpcode::VCVTPS2PH => Condition::AvxAndF16c,
+            _ => Condition::Avx,
         }
     }
 }

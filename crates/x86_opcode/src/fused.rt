@@ -1,4 +1,4 @@
-// The constants and the names of a part, written by tools/opcodes.py.
+// The constants, the names and the conditions of a part, written by tools/opcodes.py.
 ghost use Rattle.std.specs.Prelude.{◌≡◌, Some};
 ghost use Rattle.x86_opcode.specs.Name.{fused_name};
 

@@ -1,8 +1,9 @@
-// The constants and the names of a part, written by tools/opcodes.py.
+// The constants, the names and the conditions of a part, written by tools/opcodes.py.
 ghost use Rattle.std.specs.Prelude.{◌≡◌, Some};
+ghost use Rattle.x86_opcode.specs.Condition.{integer_condition};
 ghost use Rattle.x86_opcode.specs.Name.{integer_name};
 
-use crate::{IntegerOpcode, Opcode};
+use crate::{Condition, IntegerOpcode, Opcode};
 use std::fmt;
 
 /// VEX instructions on integers, on general registers, and on no operand.
@@ -534,6 +535,35 @@ impl IntegerOpcode {
             IntegerOpcode::VPXOR => "VPXOR",
             IntegerOpcode::VZEROALL => "VZEROALL",
             IntegerOpcode::VZEROUPPER => "VZEROUPPER",
+        }
+    }
+
+    /// What the settings must say to permit the opcode without the EVEX mark.
+    #[tactic(auto, unfolding(crate::specs::Condition::integer_condition))]
+    pub fn condition(self) -> Condition
+        ensures { result ≡ integer_condition self }
+    {
+        match self {
+            IntegerOpcode::ANDN
+            | IntegerOpcode::BEXTR
+            | IntegerOpcode::BLSI
+            | IntegerOpcode::BLSMSK
+            | IntegerOpcode::BLSR => Condition::Bmi1,
+            IntegerOpcode::BZHI
+            | IntegerOpcode::MULX
+            | IntegerOpcode::PDEP
+            | IntegerOpcode::PEXT
+            | IntegerOpcode::RORX
+            | IntegerOpcode::SARX
+            | IntegerOpcode::SHLX
+            | IntegerOpcode::SHRX => Condition::Bmi2,
+            IntegerOpcode::VAESDEC
+            | IntegerOpcode::VAESDECLAST
+            | IntegerOpcode::VAESENC
+            | IntegerOpcode::VAESENCLAST
+            | IntegerOpcode::VAESIMC
+            | IntegerOpcode::VAESKEYGENASSIST => Condition::AvxAndAesni,
+            _ => Condition::Avx,
         }
     }
 }

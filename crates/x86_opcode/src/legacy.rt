@@ -1,8 +1,9 @@
-// The constants and the names of a part, written by tools/opcodes.py.
+// The constants, the names and the conditions of a part, written by tools/opcodes.py.
 ghost use Rattle.std.specs.Prelude.{◌≡◌, Some};
+ghost use Rattle.x86_opcode.specs.Condition.{legacy_condition};
 ghost use Rattle.x86_opcode.specs.Name.{legacy_name};
 
-use crate::{LegacyOpcode, Opcode};
+use crate::{Condition, LegacyOpcode, Opcode};
 use std::fmt;
 
 /// Instructions that have no VEX or EVEX prefix.
@@ -525,6 +526,179 @@ impl LegacyOpcode {
             LegacyOpcode::INVEPT => "INVEPT",
             LegacyOpcode::INVVPID => "INVVPID",
             LegacyOpcode::HRESET => "HRESET",
+        }
+    }
+
+    /// What the settings must say to permit the opcode without the EVEX mark.
+    #[tactic(auto, unfolding(crate::specs::Condition::legacy_condition))]
+    pub fn condition(self) -> Condition
+        ensures { result ≡ legacy_condition self }
+    {
+        match self {
+            LegacyOpcode::FEMMS
+            | LegacyOpcode::PAVGUSB
+            | LegacyOpcode::PFADD
+            | LegacyOpcode::PFSUB
+            | LegacyOpcode::PFSUBR
+            | LegacyOpcode::PFACC
+            | LegacyOpcode::PFCMPGE
+            | LegacyOpcode::PFCMPGT
+            | LegacyOpcode::PFCMPEQ
+            | LegacyOpcode::PFMAX
+            | LegacyOpcode::PFMIN
+            | LegacyOpcode::PI2FD
+            | LegacyOpcode::PF2ID
+            | LegacyOpcode::PFRCP
+            | LegacyOpcode::PFRSQRT
+            | LegacyOpcode::PFMUL
+            | LegacyOpcode::PFRCPIT1
+            | LegacyOpcode::PFRCPIT2
+            | LegacyOpcode::PFRSQIT1
+            | LegacyOpcode::PMULHRW
+            | LegacyOpcode::PF2IW
+            | LegacyOpcode::PFNACC
+            | LegacyOpcode::PFPNACC
+            | LegacyOpcode::PI2FW
+            | LegacyOpcode::PSWAPD => Condition::ThreeDNow,
+            LegacyOpcode::TZCNT => Condition::Tzcnt,
+            LegacyOpcode::LDDQU
+            | LegacyOpcode::ADDSUBPS
+            | LegacyOpcode::ADDSUBPD
+            | LegacyOpcode::HADDPS
+            | LegacyOpcode::HSUBPS
+            | LegacyOpcode::HADDPD
+            | LegacyOpcode::HSUBPD
+            | LegacyOpcode::MOVSHDUP
+            | LegacyOpcode::MOVSLDUP
+            | LegacyOpcode::MOVDDUP
+            | LegacyOpcode::MONITOR
+            | LegacyOpcode::MWAIT => Condition::Sse3,
+            LegacyOpcode::PHADDW
+            | LegacyOpcode::PHADDSW
+            | LegacyOpcode::PHADDD
+            | LegacyOpcode::PHSUBW
+            | LegacyOpcode::PHSUBSW
+            | LegacyOpcode::PHSUBD
+            | LegacyOpcode::PABSB
+            | LegacyOpcode::PABSW
+            | LegacyOpcode::PABSD
+            | LegacyOpcode::PMADDUBSW
+            | LegacyOpcode::PMULHRSW
+            | LegacyOpcode::PSHUFB
+            | LegacyOpcode::PSIGNB
+            | LegacyOpcode::PSIGNW
+            | LegacyOpcode::PSIGND
+            | LegacyOpcode::PALIGNR => Condition::Ssse3,
+            LegacyOpcode::PMULLD
+            | LegacyOpcode::PMULDQ
+            | LegacyOpcode::MOVNTDQA
+            | LegacyOpcode::BLENDPD
+            | LegacyOpcode::BLENDPS
+            | LegacyOpcode::BLENDVPD
+            | LegacyOpcode::BLENDVPS
+            | LegacyOpcode::PBLENDVB
+            | LegacyOpcode::BLENDW
+            | LegacyOpcode::PMINUW
+            | LegacyOpcode::PMINUD
+            | LegacyOpcode::PMINSB
+            | LegacyOpcode::PMINSD
+            | LegacyOpcode::PMAXUW
+            | LegacyOpcode::PMAXUD
+            | LegacyOpcode::PMAXSB
+            | LegacyOpcode::PMAXSD
+            | LegacyOpcode::ROUNDPS
+            | LegacyOpcode::ROUNDPD
+            | LegacyOpcode::ROUNDSS
+            | LegacyOpcode::ROUNDSD
+            | LegacyOpcode::PBLENDW
+            | LegacyOpcode::EXTRACTPS
+            | LegacyOpcode::INSERTPS
+            | LegacyOpcode::PINSRB => Condition::Sse41,
+            LegacyOpcode::PINSRD
+            | LegacyOpcode::PINSRQ
+            | LegacyOpcode::PMOVSXBW
+            | LegacyOpcode::PMOVZXBW
+            | LegacyOpcode::PMOVSXBD
+            | LegacyOpcode::PMOVZXBD
+            | LegacyOpcode::PMOVSXWD
+            | LegacyOpcode::PMOVZXWD
+            | LegacyOpcode::PMOVSXBQ
+            | LegacyOpcode::PMOVZXBQ
+            | LegacyOpcode::PMOVSXWQ
+            | LegacyOpcode::PMOVZXWQ
+            | LegacyOpcode::PMOVSXDQ
+            | LegacyOpcode::PMOVZXDQ
+            | LegacyOpcode::DPPS
+            | LegacyOpcode::DPPD
+            | LegacyOpcode::MPSADBW
+            | LegacyOpcode::PHMINPOSUW
+            | LegacyOpcode::PTEST
+            | LegacyOpcode::PCMPEQQ
+            | LegacyOpcode::PEXTRB
+            | LegacyOpcode::PEXTRW
+            | LegacyOpcode::PEXTRD
+            | LegacyOpcode::PEXTRQ
+            | LegacyOpcode::PACKUSDW => Condition::Sse41,
+            LegacyOpcode::EXTRQ
+            | LegacyOpcode::INSERTQ
+            | LegacyOpcode::MOVNTSS
+            | LegacyOpcode::MOVNTSD => Condition::Sse4a,
+            LegacyOpcode::CRC32
+            | LegacyOpcode::PCMPESTRI
+            | LegacyOpcode::PCMPESTRM
+            | LegacyOpcode::PCMPISTRI
+            | LegacyOpcode::PCMPISTRM
+            | LegacyOpcode::PCMPGTQ => Condition::Sse42,
+            LegacyOpcode::AESDEC
+            | LegacyOpcode::AESDECLAST
+            | LegacyOpcode::AESENC
+            | LegacyOpcode::AESENCLAST
+            | LegacyOpcode::AESIMC
+            | LegacyOpcode::AESKEYGENASSIST => Condition::Aesni,
+            LegacyOpcode::PCLMULQDQ => Condition::Pclmulqdq,
+            LegacyOpcode::XABORT
+            | LegacyOpcode::XBEGIN
+            | LegacyOpcode::XEND
+            | LegacyOpcode::XTEST => Condition::Tsx,
+            LegacyOpcode::SHA1MSG1
+            | LegacyOpcode::SHA1MSG2
+            | LegacyOpcode::SHA1NEXTE
+            | LegacyOpcode::SHA1RNDS4
+            | LegacyOpcode::SHA256MSG1
+            | LegacyOpcode::SHA256MSG2
+            | LegacyOpcode::SHA256RNDS2 => Condition::Sha,
+            LegacyOpcode::ENCLV | LegacyOpcode::ENCLS | LegacyOpcode::ENCLU => Condition::Sgx,
+            LegacyOpcode::MOVBE => Condition::Movbe,
+            LegacyOpcode::POPCNT => Condition::Popcnt,
+            LegacyOpcode::LZCNT => Condition::Lzcnt,
+            LegacyOpcode::ADCX | LegacyOpcode::ADOX => Condition::Adx,
+            LegacyOpcode::VMRUN
+            | LegacyOpcode::VMLOAD
+            | LegacyOpcode::VMSAVE
+            | LegacyOpcode::CLGI
+            | LegacyOpcode::VMMCALL
+            | LegacyOpcode::INVLPGA => Condition::Svm,
+            LegacyOpcode::STGI | LegacyOpcode::SKINIT => Condition::SvmAndSkinit,
+            LegacyOpcode::LAHF | LegacyOpcode::SAHF => Condition::Lahfsahf,
+            LegacyOpcode::RDRAND => Condition::Rdrand,
+            LegacyOpcode::RDSEED => Condition::Rdseed,
+            LegacyOpcode::AESDEC128KL
+            | LegacyOpcode::AESDEC256KL
+            | LegacyOpcode::AESDECWIDE128KL
+            | LegacyOpcode::AESDECWIDE256KL
+            | LegacyOpcode::AESENC128KL
+            | LegacyOpcode::AESENC256KL
+            | LegacyOpcode::AESENCWIDE128KL
+            | LegacyOpcode::AESENCWIDE256KL
+            | LegacyOpcode::ENCODEKEY128
+            | LegacyOpcode::ENCODEKEY256
+            | LegacyOpcode::LOADIWKEY => Condition::Keylocker,
+            LegacyOpcode::MONITORX
+            | LegacyOpcode::MWAITX
+            | LegacyOpcode::CLZERO
+            | LegacyOpcode::RDPRU => Condition::AmdQuirks,
+            LegacyOpcode::INVEPT | LegacyOpcode::INVVPID => Condition::Vmx,
+            LegacyOpcode::HRESET => Condition::Hreset,
         }
     }
 }

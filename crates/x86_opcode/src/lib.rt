@@ -1,16 +1,21 @@
 //! The names of x86 opcodes that the decoder and its settings speak of.
 #![tactic(auto)]
 
-ghost use Rattle.std.specs.Prelude.{◌≡◌, Some};
+ghost use Rattle.std.specs.Prelude.{◌≡◌, ◌↔◌, ◌<◌, ℕ, Some, IsTrue, length, slice_get};
 ghost use Rattle.x86_opcode.specs.Name.{opcode_name};
+ghost use Rattle.x86_opcode.specs.Number.{opcode_number};
 
+mod condition;
 mod float;
 mod fused;
 mod integer;
 mod legacy;
 mod list;
 mod marked;
+#[cfg(test)]
+mod tests;
 
+pub use condition::Condition;
 use list::ALL;
 use std::fmt;
 
@@ -50,8 +55,39 @@ impl Opcode {
         }
     }
 
+    /// The opcode's place among all opcodes, 0 to 550.
+    #[tactic(auto, unfolding(crate::specs::Number::opcode_number), using(crate::proofs::Tags::tags))]
+    pub fn number(self) -> u16
+        ensures place { result ≡ opcode_number self }
+        ensures below { result < 551 }
+        ensures distinct { (other : Opcode) → opcode_number other ≡ result → other ≡ self }
+    {
+        // The parts stand one after another.
+        match self {
+            Opcode::Invalid => 0,
+            Opcode::BSF => 1,
+            Opcode::Legacy(part) => 2 + part as u16,
+            Opcode::Integer(part) => 172 + part as u16,
+            Opcode::Float(part) => 345 + part as u16,
+            Opcode::Fused(part) => 474 + part as u16,
+            Opcode::Marked(part) => 534 + part as u16,
+        }
+    }
+
+    /// Whether the two opcodes are one.
+    #[tactic(auto, using(crate::proofs::Numbers::opcode_number_injective))]
+    pub fn is(self, other: Opcode) -> bool
+        ensures { IsTrue result ↔ (self ≡ other) }
+    {
+        self.number() == other.number()
+    }
+
     /// All opcodes, each once, in the order of their numbers.
-    pub fn all() -> &'static [Opcode] {
+    pub fn all() -> &'static [Opcode]
+        ensures each { (o : Opcode) → slice_get result.now (opcode_number o) ≡ Some o }
+        ensures once { (i : ℕ) (o : Opcode) → slice_get result.now i ≡ Some o → i ≡ opcode_number o }
+        ensures count { length result.now ≡ 551 }
+    {
         &ALL
     }
 }
@@ -68,7 +104,7 @@ impl fmt::Debug for Opcode {
     ghost debug_output = { λ opcode. Some (opcode_name opcode) };
 
     fn fmt<W: fmt::Write>(&self, f: &mut fmt::Formatter<W>) -> fmt::Result {
-        f.write_str(self.name())
+        fmt::Display::fmt(self, f)
     }
 }
 

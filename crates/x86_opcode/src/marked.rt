@@ -1,8 +1,9 @@
-// The constants and the names of a part, written by tools/opcodes.py.
+// The constants, the names and the conditions of a part, written by tools/opcodes.py.
 ghost use Rattle.std.specs.Prelude.{◌≡◌, Some};
+ghost use Rattle.x86_opcode.specs.Condition.{marked_condition};
 ghost use Rattle.x86_opcode.specs.Name.{marked_name};
 
-use crate::{MarkedOpcode, Opcode};
+use crate::{Condition, MarkedOpcode, Opcode};
 use std::fmt;
 
 /// Instructions that have only an EVEX prefix.
@@ -66,6 +67,32 @@ impl MarkedOpcode {
             MarkedOpcode::VRSQRT28PS => "VRSQRT28PS",
             MarkedOpcode::VRSQRT28SD => "VRSQRT28SD",
             MarkedOpcode::VRSQRT28SS => "VRSQRT28SS",
+        }
+    }
+
+    /// What the settings must say to permit the opcode without the EVEX mark.
+    #[tactic(auto, unfolding(crate::specs::Condition::marked_condition))]
+    pub fn condition(self) -> Condition
+        ensures { result ≡ marked_condition self }
+    {
+        match self {
+            MarkedOpcode::VPMULLQ => Condition::Avx,
+            MarkedOpcode::VP4DPWSSDS
+            | MarkedOpcode::VP4DPWSSD
+            | MarkedOpcode::V4FMADDPS
+            | MarkedOpcode::V4FNMADDPS
+            | MarkedOpcode::V4FMADDSS
+            | MarkedOpcode::V4FNMADDSS
+            | MarkedOpcode::VEXP2PD
+            | MarkedOpcode::VEXP2PS
+            | MarkedOpcode::VRCP28PD
+            | MarkedOpcode::VRCP28PS
+            | MarkedOpcode::VRCP28SD
+            | MarkedOpcode::VRCP28SS
+            | MarkedOpcode::VRSQRT28PD
+            | MarkedOpcode::VRSQRT28PS
+            | MarkedOpcode::VRSQRT28SD
+            | MarkedOpcode::VRSQRT28SS => Condition::Always,
         }
     }
 }

@@ -1,8 +1,12 @@
 pub mod Register
 pub mod Meaning
+pub mod Instruction
 pub mod Same
 pub mod Size
 pub mod Errors
 pub use Rattle.x86_opcode.specs.Name
 pub use Rattle.x86_opcode.specs.Number
 pub mod Kind
+pub use Rattle.x86_opcode.specs.Condition
+pub use Rattle.x86_opcode.specs.Mark
+pub use Rattle.x86_opcode.specs.Vex

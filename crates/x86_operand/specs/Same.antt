@@ -11,7 +11,7 @@ use Rattle.x86_operand.specs.declared.address.Address.{Address}
 use Rattle.x86_operand.specs.declared.address.Index.{Index}
 use Rattle.x86_opcode.specs.Number.{same_opcode}
 use Rattle.x86_operand.specs.Register.{Register}
-use Rattle.x86_operand.specs.Meaning.{OperandMeaning, register, signed, unsigned, memory, nothing, Meaning}
+use Rattle.x86_operand.specs.Meaning.{OperandMeaning, register, signed, unsigned, memory, nothing, Meaning, Decoded}
 
 -- whether two banks are one
 unfoldable pub same_bank : RegisterBank → RegisterBank → Bool
@@ -53,3 +53,7 @@ same_operands xs ys = pointwise same_operand xs ys
 unfoldable pub same_meaning : Meaning → Meaning → Bool
 same_meaning a b =
     beq a.evex b.evex && same_opcode a.opcode b.opcode && same_operands a.operands b.operands && option_eq nat_eq a.size b.size
+
+-- whether two instructions are one: the same meaning and the same length
+unfoldable pub same_decoded : Decoded → Decoded → Bool
+same_decoded a b = same_meaning a.meaning b.meaning && (a.len == b.len)

@@ -71,7 +71,7 @@ impl PartialEq for Address {
 
     ghost laws = { partial_equiv_from_equiv (decided same_address same_address_decides) };
 
-    #[tactic(auto, using(crate::specs::Same::Laws::parts))]
+    #[tactic(auto, using(crate::specs::Same::Laws::address_parts))]
     fn eq(&self, other: &Address) -> bool
         ensures same { IsTrue result ↔ (self.now ≡ other.now) }
     {
@@ -88,8 +88,8 @@ impl Eq for Address {
 }
 
 impl Operand {
-    ghost use Rattle.std.specs.Prelude.{IfSome, IsSome, IfNone};
-    ghost use Rattle.x86_operand.specs.Meaning.{operand_meaning, memory, address_of};
+    ghost use Rattle.x86_operand.specs.Meaning.{operand_meaning, address_of};
+    ghost use Rattle.x86_operand.specs.Instruction.{kept_operand};
 
     // The address that a memory operand means, in whichever form it is written.
     fn address(&self) -> Option<Address>
@@ -103,6 +103,22 @@ impl Operand {
             }),
             Operand::Memory { address } => Some(address),
             _ => None,
+        }
+    }
+
+    // The operand in the form in which an instruction keeps it.
+    pub(crate) fn kept(&self) -> Operand
+        ensures { result ≡ kept_operand (operand_meaning self.now) }
+    {
+        match *self {
+            Operand::Memory {
+                address: Address {
+                    base: Some(base),
+                    index: None,
+                    disp: 0,
+                },
+            } => Operand::MemDeref { base },
+            other => other,
         }
     }
 }
@@ -120,7 +136,7 @@ impl PartialEq for Operand {
 
     ghost laws = { partial_equiv_from_equiv (on_equiv operand_meaning (decided same_operand same_operand_decides)) };
 
-    #[tactic(auto, using(crate::specs::Same::Laws::parts))]
+    #[tactic(auto, using(crate::specs::Same::Laws::address_parts))]
     fn eq(&self, other: &Operand) -> bool
         ensures same { IsTrue result ↔ (operand_meaning self.now ≡ operand_meaning other.now) }
     {

@@ -1,0 +1,122 @@
+-- The bytes that spell a target: they are the bytes of one place.
+use Rattle.std.proofs.Common.{◌≡◌, ◌≢◌, ◌⊎◌, inl, inr, ⊎_elim, ℕ, ◌/◌, ◌%◌, ◌<◌, Ok, arith, ◌≤◌, Bool, true, List, [], ◌∷◌, ◌++◌, length, refl, sym, ap, ◌∙◌, subst, subst₂, append-nil}
+use Rattle.x86_operand.specs.Kind.{Kind, WithoutModRM, InRegister, InMemory}
+use Rattle.x86_address.specs.Place.{Place, NoPlace, IsPlace, kind_of, mod_of, rm_of, tail_of, place_bytes, Target, kind_of_target, target, SpellsTarget}
+use Rattle.x86_address.specs.Reading.{take_place}
+use Rattle.x86_address.specs.Shortest.{shortest, x_of, b_of, IsSpellable}
+use Rattle.x86_address.specs.Laws.{OnlySpellable, ShortestSpells, ShortestIsLeast, XIsFixed, BIsFixed, DemandedIsSet, ReadingIsSpelling, ReadingFails, OnePlace, OneReading}
+use Rattle.x86_address.proofs.Fields.{same_fields}
+use Rattle.x86_address.proofs.Reader.{same_read}
+use Rattle.x86_address.proofs.Reading.{take_place-again, take_place-fails, modrm-written, modrm-again}
+use Rattle.x86_address.proofs.PlaceBytes.{has_modrm, place_bytes_split, rm_of_below, place_bytes_none}
+use Rattle.x86_address.proofs.Shortest.{is_place-shortest, kind_of-shortest, kind_of_target-target, names-shortest, IsSpellable-target, shortest-least, x_fixed_or_ignored, b_fixed_or_ignored, x_of-target, b_of-target}
+
+-- what bytes spell is in range, and of their kind
+pub only_spellable : OnlySpellable
+only_spellable bytes kind reg x b e s =
+    subst (λ e. (kind ≡ kind_of_target e) × IsSpellable e) (sym s.names) (sym s.is_kind ∙ sym (kind_of_target-target s.place x b), IsSpellable-target s.place x b s.is_place)
+
+-- the shortest place spells what can be spelled
+pub shortest_spells : ShortestSpells
+shortest_spells reg e below ok = record {
+  is_reg = below;
+  place = shortest e;
+  is_place = is_place-shortest e;
+  is_kind = kind_of-shortest e;
+  written = refl;
+  names = sym (names-shortest e ok);
+}
+
+-- no bytes that spell it are fewer
+pub shortest_is_least : ShortestIsLeast
+shortest_is_least bytes kind reg other x b e s =
+    subst₂ (λ e bytes. length (place_bytes other (shortest e)) ≤ length bytes) (sym s.names) (sym s.written) (shortest-least s.place x b other reg s.is_place)
+
+-- the same bytes with other bits, where they name the same
+spells_with : (bytes : List ℕ) (kind : Kind) (reg : ℕ) (x b x' b' : Bool) (e : Target) → (s : SpellsTarget bytes kind reg x b e) → target s.place x' b' ≡ target s.place x b → SpellsTarget bytes kind reg x' b' e
+spells_with bytes kind reg x b x' b' e s same = record {
+  is_reg = s.is_reg;
+  place = s.place;
+  is_place = s.is_place;
+  is_kind = s.is_kind;
+  written = s.written;
+  names = s.names ∙ sym same;
+}
+
+-- X is as the target demands, or plays no part
+pub x_is_fixed : XIsFixed
+x_is_fixed bytes kind reg x b e s =
+    ⊎_elim (λ ignored. inr (λ other. spells_with bytes kind reg x b other b e s (ignored other))) (λ fixed. inl (sym fixed ∙ ap x_of (sym s.names))) (x_fixed_or_ignored s.place x b s.is_place)
+
+-- B is as the target demands, or plays no part
+pub b_is_fixed : BIsFixed
+b_is_fixed bytes kind reg x b e s =
+    ⊎_elim (λ ignored. inr (λ other. spells_with bytes kind reg x b x other e s (ignored other))) (λ fixed. inl (sym fixed ∙ ap b_of (sym s.names))) (b_fixed_or_ignored s.place x b s.is_place)
+
+-- a bit that is demanded is 1
+pub demanded_is_set : DemandedIsSet
+demanded_is_set bytes kind reg x b e s =
+    subst (λ e. (x_of e ≡ true → x ≡ true) × (b_of e ≡ true → b ≡ true)) (sym s.names) (x_of-target s.place x b s.is_place, b_of-target s.place x b s.is_place)
+
+-- places that are read from one string by one mod and rm are one
+same_place : (p p' : Place) (rest rest' : List ℕ) → IsPlace p → IsPlace p' → (kind_of p ≡ InRegister) ⊎ (kind_of p ≡ InMemory) → (kind_of p' ≡ InRegister) ⊎ (kind_of p' ≡ InMemory) → mod_of p ≡ mod_of p' → rm_of p ≡ rm_of p' → tail_of p ++ rest ≡ tail_of p' ++ rest' → (p ≡ p') × (rest ≡ rest')
+same_place p p' rest rest' ok ok' has has' mods rms tails =
+    let one = same_read {x = (p, rest)} {y = (p', rest')} (sym (take_place-again p rest ok has) ∙ rw (mods, rms, tails) (take_place-again p' rest' ok' has')) in
+    (ap (λ read. read.0) one, ap (λ read. read.1) one)
+
+-- lists that are one have one head and one tail
+same_parts : (a b : ℕ) (rest others : List ℕ) → a ∷ rest ≡ b ∷ others → (a ≡ b) × (rest ≡ others)
+same_parts a b rest others h = (cc, cc)
+
+-- places with a ModRM byte whose bytes begin one string are one, with one reg field
+pub place_bytes-prefix : (reg reg' : ℕ) (p p' : Place) (rest rest' : List ℕ) → reg < 8 → reg' < 8 → IsPlace p → IsPlace p' → (kind_of p ≡ InRegister) ⊎ (kind_of p ≡ InMemory) → (kind_of p' ≡ InRegister) ⊎ (kind_of p' ≡ InMemory) → place_bytes reg p ++ rest ≡ place_bytes reg' p' ++ rest' → (reg ≡ reg') × (p ≡ p') × (rest ≡ rest')
+place_bytes-prefix reg reg' p p' rest rest' below below' ok ok' has has' same =
+    let parts = same_parts _ _ (tail_of p ++ rest) (tail_of p' ++ rest') (subst₂ (λ bytes others. bytes ++ rest ≡ others ++ rest') (place_bytes_split reg p has) (place_bytes_split reg' p' has') same) in
+    let fields = same_fields (mod_of p) reg (rm_of p) (mod_of p') reg' (rm_of p') below (rm_of_below p ok) below' (rm_of_below p' ok') parts.0 in
+    let one = same_place p p' rest rest' ok ok' has has' fields.0 fields.2 parts.1 in
+    (fields.1, one.0, one.1)
+
+-- places of the same bytes are one
+pub one_place : OnePlace
+one_place reg reg' NoPlace NoPlace below below' ok ok' same = refl
+one_place reg reg' NoPlace p' below below' ok ok' same = cc
+one_place reg reg' p NoPlace below below' ok ok' same = cc
+one_place reg reg' p p' below below' ok ok' same =
+    (place_bytes-prefix reg reg' p p' [] [] below below' ok ok' (has_modrm p (λ e. cc)) (has_modrm p' (λ e. cc)) (ap (λ bytes. bytes ++ []) same)).1
+
+-- a string that begins with a ModRM byte is that of no place without
+modrm_follows : (reg reg' : ℕ) (p p' : Place) (more : List ℕ) → (kind_of p ≡ InRegister) ⊎ (kind_of p ≡ InMemory) → place_bytes reg p ++ more ≡ place_bytes reg' p' → kind_of p' ≢ WithoutModRM
+modrm_follows reg reg' p p' more has same none =
+    let empty = subst₂ (λ bytes others. bytes ++ more ≡ others) (place_bytes_split reg p has) (place_bytes_none reg' p' none) same in
+    cc empty
+
+-- address bytes begin no other's, and name one target
+pub one_reading : OneReading
+one_reading bytes more kind kind' reg reg' x b e e' modrm s s' =
+    let has = has_modrm s.place (λ none. modrm (sym s.is_kind ∙ none)) in
+    let same = ap (λ bytes. bytes ++ more) (sym s.written) ∙ s'.written in
+    let has' = has_modrm s'.place (modrm_follows reg reg' s.place s'.place more has same) in
+    let one = place_bytes-prefix reg reg' s.place s'.place more [] s.is_reg s'.is_reg s.is_place s'.is_place has has' (same ∙ sym (append-nil _)) in
+    (one.2, one.0, s.names ∙ ap (λ p. target p x b) one.1 ∙ sym s'.names)
+
+-- the bytes of a place are read as that place
+read_modrm : (modrm : ℕ) (bytes : List ℕ) (p : Place) (rest : List ℕ) → modrm < 256 → IsPlace p → (kind_of p ≡ InRegister) ⊎ (kind_of p ≡ InMemory) → modrm ∷ bytes ≡ place_bytes ((modrm / 8) % 8) p ++ rest → take_place (modrm / 64) (modrm % 8) bytes ≡ Ok (p, rest)
+read_modrm modrm bytes p rest below ok has same =
+    let reg = (modrm / 8) % 8 in
+    let parts = same_parts modrm _ bytes (tail_of p ++ rest) (subst (λ others. modrm ∷ bytes ≡ others ++ rest) (place_bytes_split reg p has) same) in
+    rw parts.1 (modrm-again reg p modrm rest (omega arith) ok has parts.0)
+
+-- a register or memory has a ModRM byte
+with_modrm : (kind : Kind) → (kind ≡ InRegister) ⊎ (kind ≡ InMemory) → kind ≢ WithoutModRM
+with_modrm kind has = λ none. grind arith
+
+-- reading and spelling are one
+pub reading_is_spelling : ReadingIsSpelling
+reading_is_spelling modrm bytes p rest below ok = (
+  (λ h. let read = modrm-written modrm bytes below ok p rest h in (read.is_place, with_modrm _ read.has_modrm, read.written)),
+  (λ h. read_modrm modrm bytes p rest below h.0 (has_modrm p h.1) h.2),
+)
+
+-- reading fails only where no byte is left
+pub reading_fails : ReadingFails
+reading_fails mode rm bytes error h = take_place-fails mode rm bytes error h

@@ -1,0 +1,72 @@
+-- Laws of addresses: each is the contract of a function in the module `laws`.
+use Rattle.std.specs.Prelude.{◌≡◌, ◌≢◌, ◌⊎◌, ◌↔◌, ◌/◌, ◌%◌, ◌∷◌, Ok, Err, true, ℕ, ◌<◌, ◌≤◌, Bool, List, [], ◌++◌, length}
+use Rattle.x86_operand.specs.declared.error.DecodeError.{DecodeError}
+use Rattle.x86_operand.specs.declared.error.DecodeError.TheVariants.{ExhaustedInput}
+use Rattle.x86_operand.specs.Kind.{Kind, WithoutModRM}
+use Rattle.x86_address.specs.Bytes.{IsBytes}
+use Rattle.x86_address.specs.Place.{Place, IsPlace, kind_of, place_bytes, Target, kind_of_target, SpellsTarget}
+use Rattle.x86_address.specs.Reading.{take_place}
+use Rattle.x86_address.specs.Shortest.{shortest, x_of, b_of, IsSpellable}
+
+-- bytes name only targets whose parts are in range, each of its own kind
+abbrev pub OnlySpellable : Type 0
+OnlySpellable =
+    (bytes : List ℕ) (kind : Kind) (reg : ℕ) (x b : Bool) (e : Target) → SpellsTarget bytes kind reg x b e
+    → (kind ≡ kind_of_target e) × IsSpellable e
+
+-- and each of those is named by the bytes of its shortest place, with the bits X and B that it demands
+abbrev pub ShortestSpells : Type 0
+ShortestSpells =
+    (reg : ℕ) (e : Target) → reg < 8 → IsSpellable e
+    → SpellsTarget (place_bytes reg (shortest e)) (kind_of_target e) reg (x_of e) (b_of e) e
+
+-- no bytes that name it, with whatever reg, X and B, are fewer than those of the shortest place
+abbrev pub ShortestIsLeast : Type 0
+ShortestIsLeast =
+    (bytes : List ℕ) (kind : Kind) (reg other_reg : ℕ) (x b : Bool) (e : Target) → SpellsTarget bytes kind reg x b e
+    → length (place_bytes other_reg (shortest e)) ≤ length bytes
+
+-- X is the bit that the target demands, or the bytes name it with either X
+abbrev pub XIsFixed : Type 0
+XIsFixed =
+    (bytes : List ℕ) (kind : Kind) (reg : ℕ) (x b : Bool) (e : Target) → SpellsTarget bytes kind reg x b e
+    → (x ≡ x_of e) ⊎ ((other : Bool) → SpellsTarget bytes kind reg other b e)
+
+-- B is the bit that the target demands, or the bytes name it with either B
+abbrev pub BIsFixed : Type 0
+BIsFixed =
+    (bytes : List ℕ) (kind : Kind) (reg : ℕ) (x b : Bool) (e : Target) → SpellsTarget bytes kind reg x b e
+    → (b ≡ b_of e) ⊎ ((other : Bool) → SpellsTarget bytes kind reg x other e)
+
+-- a bit that the target demands is 1 wherever bytes name it; so where some name it with X and B both 0, so do those of
+-- the shortest place
+abbrev pub DemandedIsSet : Type 0
+DemandedIsSet =
+    (bytes : List ℕ) (kind : Kind) (reg : ℕ) (x b : Bool) (e : Target) → SpellsTarget bytes kind reg x b e
+    → (x_of e ≡ true → x ≡ true) × (b_of e ≡ true → b ≡ true)
+
+-- two places of the same bytes are one
+abbrev pub OnePlace : Type 0
+OnePlace =
+    (reg other_reg : ℕ) (place other : Place) → reg < 8 → other_reg < 8 → IsPlace place → IsPlace other
+    → place_bytes reg place ≡ place_bytes other_reg other → place ≡ other
+
+-- the bytes of an address begin those of no other, and name one target with one reg field
+abbrev pub OneReading : Type 0
+OneReading =
+    (bytes more : List ℕ) (kind other_kind : Kind) (reg other_reg : ℕ) (x b : Bool) (e other : Target) → kind ≢ WithoutModRM
+    → SpellsTarget bytes kind reg x b e → SpellsTarget (bytes ++ more) other_kind other_reg x b other
+    → (more ≡ []) × (reg ≡ other_reg) × (e ≡ other)
+
+-- what follows a ModRM byte is read as a place exactly where ModRM and the bytes taken are the bytes of that place
+abbrev pub ReadingIsSpelling : Type 0
+ReadingIsSpelling =
+    (modrm : ℕ) (bytes : List ℕ) (place : Place) (rest : List ℕ) → modrm < 256 → IsBytes bytes
+    → (take_place (modrm / 64) (modrm % 8) bytes ≡ Ok (place, rest))
+    ↔ (IsPlace place × (kind_of place ≢ WithoutModRM) × (modrm ∷ bytes ≡ place_bytes ((modrm / 8) % 8) place ++ rest))
+
+-- it fails only where no byte is left
+abbrev pub ReadingFails : Type 0
+ReadingFails =
+    (mode rm : ℕ) (bytes : List ℕ) (error : DecodeError × List ℕ) → take_place mode rm bytes ≡ Err error
+    → error ≡ (ExhaustedInput, [])

@@ -1,0 +1,6 @@
+use Rattle.std.specs.Bool.{one_answer}
+use Rattle.x86_operand.specs.Same.Laws.{same_decoded_decides}
+use Rattle.x86_operand.proofs.instruction.InstructionPartialEq.TheImpl.Goals as goal
+
+pub eq-tells : goal.eq-tells
+eq-tells c = one_answer c.result _ c.ensures.same (same_decoded_decides c.args.self.now c.args.other.now)
