@@ -7,3 +7,4 @@ pub mod SpellingBytes
 pub mod Readers
 pub mod Permitted
 pub mod SpellingLaws
+pub mod Computed

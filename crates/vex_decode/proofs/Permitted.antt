@@ -1,5 +1,5 @@
 -- Further settings permit no less: every row has a VEX opcode, whose condition is a conjunction of bits.
-use Rattle.std.specs.Prelude.{◌≡◌, refl, true, false, not, Bool, ℕ, List, [], ◌∷◌, filter}
+use Rattle.std.specs.Prelude.{◌≡◌, refl, true, false, not, Bool, ℕ, List, [], ◌∷◌, map, filter}
 use Rattle.std.proofs.Common.{ap, sym, ◌∙◌, subst}
 use Rattle.x86_opcode.specs.declared.Opcode.{Opcode}
 use Rattle.x86_opcode.specs.Vex.{is_vex}
@@ -12,12 +12,12 @@ use Rattle.vex_rows.specs.Groups.{groups}
 use Rattle.vex_rows.specs.Steps.{steps}
 use Rattle.vex_rows.specs.Table.{table}
 use Rattle.vex_rows.specs.Row.{Row, Among, IsRow, rows, choices, exists, has_groups, opcode_of}
-use Rattle.vex_rows.proofs.Lists.{among-filter, both-parts, parts-both}
+use Rattle.vex_rows.proofs.Lists.{among-map, among-filter, both-parts, parts-both}
 use Rattle.vex_decode.specs.Laws.{AreWithin}
 
--- the rows whose opcode is no VEX opcode
-abbrev strays : List Row → List Row
-strays rows = filter (λ row. not (vex_part (opcode_of row))) rows
+-- the opcodes of rows that are no VEX opcodes
+abbrev strays : List Row → List Opcode
+strays rows = filter (λ o. not (vex_part o)) (map opcode_of rows)
 
 -- there is none
 no_strays : strays rows ≡ []
@@ -30,7 +30,7 @@ unfolding IsRow
 is_vex-row row is_row = is_vex-vex_part (opcode_of row) ∙ by (vex_part (opcode_of row)) refl where
   by : (b : Bool) → vex_part (opcode_of row) ≡ b → b ≡ true
   by true e = refl
-  by false e = absurd (subst (Among row) no_strays (among-filter (λ row. not (vex_part (opcode_of row))) row rows (ap not e) is_row))
+  by false e = absurd (subst (Among (opcode_of row)) no_strays (among-filter (λ o. not (vex_part o)) (opcode_of row) (map opcode_of rows) (ap not e) (among-map opcode_of row rows is_row)))
 
 -- bits that are all set stay so
 all_set-more : (settings more : List Bool) → AreWithin settings more → (places : List ℕ) → all_set settings places ≡ true → all_set more places ≡ true
