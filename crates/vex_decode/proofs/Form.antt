@@ -13,7 +13,9 @@ use Rattle.x86_address.proofs.PlaceBytes.{place_bytes_split, rm_of_below}
 use Rattle.x86_address.proofs.Reader.{Answers, Answers-ok, Answers-bind, Answers-if, ReadsByte, take_byte-written}
 use Rattle.x86_address.proofs.Reading.{ReadsPlace, take_place-written, take_place-again}
 use Rattle.vex_rows.specs.declared.entry.Entry.{Entry}
-use Rattle.vex_rows.specs.Steps.{Steps, steps, Check, V0, L0, Reg, Mem, Group, VifMem}
+use Rattle.vex_rows.specs.declared.steps.Check.{Check}
+use Rattle.vex_rows.specs.declared.steps.Check.TheVariants.{V0, L0, Reg, Mem, Group, VifMem}
+use Rattle.vex_rows.specs.Steps.{FormSteps, steps}
 use Rattle.vex_rows.specs.Row.{Among, kinds_of, is_register}
 use Rattle.vex_rows.specs.Tests.{is_prefix_check, is_modrm_check, is_late_check, is_register_check, is_none}
 use Rattle.vex_rows.proofs.Lists.{both-parts, parts-both}
@@ -94,7 +96,7 @@ pub record ReadsForm (entry : Entry) (f : Fields) (bytes : List ℕ) (read : Ope
   pub left : IsBytes rest
 
 -- what the steps from ModRM on read
-record ReadsModrm (entry : Entry) (f : Fields) (form : Steps) (bytes : List ℕ) (read : Operands) (rest : List ℕ) : Type 0 where
+record ReadsModrm (entry : Entry) (f : Fields) (form : FormSteps) (bytes : List ℕ) (read : Operands) (rest : List ℕ) : Type 0 where
   second : list_all (passes entry f (kind_of read.place) read.reg) form.second ≡ true
   third : list_all (passes entry f (kind_of read.place) read.reg) form.third ≡ true
   kind : (kind_of read.place ≡ InRegister) ⊎ (kind_of read.place ≡ InMemory)
@@ -114,7 +116,7 @@ modrm-written n rest after p kind mode rm e =
     let byte : 64 * mod_of p + 8 * ((n / 8) % 8) + rm_of p ≡ n = ap₂ (λ m r. 64 * m + 8 * ((n / 8) % 8) + r) mode rm ∙ packed n in
     ap₂ ◌∷◌ (sym byte) e ∙ ap (λ bytes. bytes ++ after) (sym (place_bytes_split ((n / 8) % 8) p kind))
 
-walk_modrm-written : (entry : Entry) (f : Fields) (form : Steps) (bytes : List ℕ) → (form.address || list_any is_register_check form.second) ≡ true → IsBytes bytes → Answers (ReadsModrm entry f form bytes) (walk_modrm entry f form bytes)
+walk_modrm-written : (entry : Entry) (f : Fields) (form : FormSteps) (bytes : List ℕ) → (form.address || list_any is_register_check form.second) ≡ true → IsBytes bytes → Answers (ReadsModrm entry f form bytes) (walk_modrm entry f form bytes)
 walk_modrm-written entry f form bytes direct is =
     Answers-bind (ReadsByte bytes) _ (take_byte bytes) _ (take_byte-written bytes is) (λ n rest modrm.
     Answers-bind (λ _ r. Passed entry f (kind_of_mod (n / 64)) ((n / 8) % 8) form.second rest r) _ (check_all entry f (kind_of_mod (n / 64)) ((n / 8) % 8) form.second rest) _ (check_all-passed entry f (kind_of_mod (n / 64)) ((n / 8) % 8) form.second rest) (λ _ r2 second.
@@ -135,7 +137,7 @@ walk_modrm-written entry f form bytes direct is =
       left = read.left;
     }))))))
 
-walk_alone-written : (form : Steps) (bytes : List ℕ) → IsBytes bytes → Answers (λ read rest. (read.place ≡ NoPlace) × (read.reg ≡ 0) × ReadsImm form.imm bytes read.imm rest) (walk_alone form bytes)
+walk_alone-written : (form : FormSteps) (bytes : List ℕ) → IsBytes bytes → Answers (λ read rest. (read.place ≡ NoPlace) × (read.reg ≡ 0) × ReadsImm form.imm bytes read.imm rest) (walk_alone form bytes)
 walk_alone-written form bytes is =
     Answers-bind (ReadsImm form.imm bytes) _ (take_imm form.imm bytes) _ (take_imm-written form.imm bytes is) (λ imm rest read.
     Answers-ok _ (record { reg = 0; place = NoPlace; imm = imm }) rest (refl, refl, read))
@@ -160,7 +162,7 @@ no_checks [] h = refl
 no_checks (c ∷ cs) h = cc
 
 -- a form without ModRM checks nothing after the first checks
-pub record Alone (form : Steps) : Type 0 where
+pub record Alone (form : FormSteps) : Type 0 where
   pub second : form.second ≡ []
   pub third : form.third ≡ []
   pub address : form.address ≡ false
@@ -279,7 +281,7 @@ pub record WritesForm (entry : Entry) (f : Fields) (read : Operands) : Type 0 wh
   pub place : IsPlace read.place
   pub imm : FitsImm (steps entry.form).imm read.imm
 
-walk_modrm-again : (entry : Entry) (f : Fields) (form : Steps) (read : Operands) (rest : List ℕ) →
+walk_modrm-again : (entry : Entry) (f : Fields) (form : FormSteps) (read : Operands) (rest : List ℕ) →
     list_all (passes entry f (kind_of read.place) read.reg) form.second ≡ true →
     list_all (passes entry f (kind_of read.place) read.reg) form.third ≡ true →
     (form.address || list_any is_register_check form.second) ≡ true →
@@ -332,7 +334,7 @@ no_place (RipBased n) e = cc
 no_place (Scaled k i j d) e = cc
 no_place (Baseless k i n) e = cc
 
-walk_alone-again : (form : Steps) (read : Operands) (rest : List ℕ) → read.reg ≡ 0 → read.place ≡ NoPlace → FitsImm form.imm read.imm → walk_alone form (place_bytes read.reg read.place ++ (imm_bytes form.imm read.imm ++ rest)) ≡ Ok (read, rest)
+walk_alone-again : (form : FormSteps) (read : Operands) (rest : List ℕ) → read.reg ≡ 0 → read.place ≡ NoPlace → FitsImm form.imm read.imm → walk_alone form (place_bytes read.reg read.place ++ (imm_bytes form.imm read.imm ++ rest)) ≡ Ok (read, rest)
 walk_alone-again form read rest reg place imm =
     ap (λ p. walk_alone form (place_bytes read.reg p ++ (imm_bytes form.imm read.imm ++ rest))) place
     ∙ step_then (take_imm form.imm (imm_bytes form.imm read.imm ++ rest)) _ (read.imm, rest) _ (take_imm-again form.imm read.imm rest imm)

@@ -1,6 +1,6 @@
 -- Further settings permit no less: every row has a VEX opcode, whose condition is a conjunction of bits.
 use Rattle.std.specs.Prelude.{◌≡◌, refl, true, false, not, Bool, ℕ, List, [], ◌∷◌, map, filter}
-use Rattle.std.proofs.Common.{ap, sym, ◌∙◌, subst}
+use Rattle.std.proofs.Common.{ap, ◌∙◌, subst}
 use Rattle.x86_opcode.specs.declared.Opcode.{Opcode}
 use Rattle.x86_opcode.specs.Vex.{is_vex}
 use Rattle.x86_opcode.proofs.Vex.{vex_part, is_vex-vex_part}

@@ -1,17 +1,19 @@
 -- A decode fails on exhausted input only where no byte is left, and more bytes after those that it takes change nothing.
-use Rattle.std.specs.Prelude.{◌≡◌, refl, ℕ, ◌/◌, ◌%◌, Bool, List, [], ◌∷◌, Option, Some, None, Ok, Err}
+use Rattle.std.specs.Prelude.{◌≡◌, ℕ, ◌/◌, ◌%◌, Bool, List, [], ◌∷◌, Option, Some, None}
 use Rattle.std.proofs.Common.{ap}
 use Rattle.x86_operand.specs.declared.error.DecodeError.{DecodeError}
-use Rattle.x86_operand.specs.declared.error.DecodeError.TheVariants.{ExhaustedInput, InvalidOpcode, InvalidOperand, Outside}
+use Rattle.x86_operand.specs.declared.error.DecodeError.TheVariants.{ExhaustedInput, InvalidOpcode, Outside}
 use Rattle.x86_operand.specs.Kind.{Kind, WithoutModRM}
-use Rattle.x86_address.specs.Reading.{Reading, ◌>>=◌, take_byte, take_place}
+use Rattle.x86_address.specs.Reading.{take_byte, take_place}
 use Rattle.x86_address.proofs.Reader.{IsReader, IsReader-ok, IsReader-err, IsReader-bind, IsReader-if, IsReader-wider, Exhausts, IsReader-take_byte}
 use Rattle.x86_address.proofs.Reading.{IsReader-take_place}
 use Rattle.vex_rows.specs.declared.entry.Entry.{Entry}
 use Rattle.vex_rows.specs.declared.key.Map.{Map}
-use Rattle.vex_rows.specs.Steps.{Steps, steps, Check, V0, L0, Reg, Mem, Group, VifMem}
+use Rattle.vex_rows.specs.declared.steps.Check.{Check}
+use Rattle.vex_rows.specs.declared.steps.Check.TheVariants.{V0, L0, Reg, Mem, Group, VifMem}
+use Rattle.vex_rows.specs.Steps.{FormSteps, steps}
 use Rattle.vex_decode.specs.Fields.{Fields, PrefixForm, C4, C5}
-use Rattle.vex_decode.specs.Walk.{map_of, fields_of_two, fields_of_three, fields_by_map, read_fields, form_of, read_prefix, key_of, entry_of, found, passes, refusal, check_all, kind_of_mod, take_imm, Operands, place_by, walk_modrm, walk_alone, walk_form, row_of, syntax_of, walk}
+use Rattle.vex_decode.specs.Walk.{map_of, fields_of_two, fields_of_three, fields_by_map, read_fields, form_of, read_prefix, key_of, entry_of, found, passes, refusal, check_all, kind_of_mod, take_imm, place_by, walk_modrm, walk_alone, walk_form, walk}
 
 -- where the input is exhausted, nothing is left
 abbrev pub ExhaustsAll : DecodeError × List ℕ → Type 0
@@ -64,7 +66,7 @@ IsReader-take_imm has = IsReader-if _ has _ _ byte (IsReader-ok _ 0)
 IsReader-place_by : (address : Bool) (mode rm : ℕ) → IsReader ExhaustsAll (place_by address mode rm)
 IsReader-place_by address mode rm = IsReader-if _ address _ _ (IsReader-wider Exhausts ExhaustsAll (take_place mode rm) exhausts_all (IsReader-take_place mode rm)) (IsReader-ok _ _)
 
-IsReader-walk_modrm : (entry : Entry) (f : Fields) (form : Steps) → IsReader ExhaustsAll (walk_modrm entry f form)
+IsReader-walk_modrm : (entry : Entry) (f : Fields) (form : FormSteps) → IsReader ExhaustsAll (walk_modrm entry f form)
 IsReader-walk_modrm entry f form =
     let checks = λ (modrm : ℕ) (cs : List Check). IsReader-check_all entry f (kind_of_mod (modrm / 64)) ((modrm / 8) % 8) cs in
     IsReader-bind _ take_byte _ byte (λ modrm.
@@ -73,7 +75,7 @@ IsReader-walk_modrm entry f form =
     IsReader-bind _ (check_all entry f (kind_of_mod (modrm / 64)) ((modrm / 8) % 8) form.third) _ (checks modrm form.third) (λ third.
     IsReader-bind _ (take_imm form.imm) _ (IsReader-take_imm form.imm) (λ imm. IsReader-ok _ _)))))
 
-IsReader-walk_alone : (form : Steps) → IsReader ExhaustsAll (walk_alone form)
+IsReader-walk_alone : (form : FormSteps) → IsReader ExhaustsAll (walk_alone form)
 IsReader-walk_alone form = IsReader-bind _ (take_imm form.imm) _ (IsReader-take_imm form.imm) (λ imm. IsReader-ok _ _)
 
 -- the steps of a form

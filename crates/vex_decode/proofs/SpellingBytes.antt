@@ -1,17 +1,17 @@
 -- The bytes of a spelling: each is below 256, and there are 3 to 11 of them.
-use Rattle.std.specs.Prelude.{◌≡◌, ℕ, ◌+◌, ◌-◌, ◌*◌, ◌≤◌, ◌<◌, Bool, true, false, List, [], ◌∷◌, ◌++◌, length}
+use Rattle.std.specs.Prelude.{ℕ, ◌+◌, ◌-◌, ◌*◌, ◌≤◌, ◌<◌, Bool, true, false, List, ◌∷◌, ◌++◌, length}
 use Rattle.std.proofs.Common.{arith, sym, subst, length-append}
 use Rattle.x86_operand.specs.Meaning.{Meaning}
 use Rattle.x86_address.specs.Bytes.{IsBytes, bit}
 use Rattle.x86_address.specs.Place.{Place, NoPlace, place_bytes}
 use Rattle.x86_address.proofs.PlaceBytes.{IsBytes-append, IsBytes-place_bytes, tail_length}
-use Rattle.vex_rows.specs.Row.{Row, IsRow}
+use Rattle.vex_rows.specs.Row.{Row, IsRow, has_imm}
 use Rattle.vex_rows.specs.Steps.{steps}
 use Rattle.vex_rows.specs.Rules.{map_number, pp_number}
 use Rattle.vex_rows.proofs.Forms.{byte_below}
 use Rattle.vex_rows.proofs.Rows.{chosen-row}
-use Rattle.vex_decode.specs.Fields.{Fields, PrefixForm, C4, C5, low_byte, prefix_bytes, IsPrefix}
-use Rattle.vex_decode.specs.Spelling.{Syntax, has_imm, imm_bytes, bytes_of, FitsReg, FitsImm, IsSyntax, Spells}
+use Rattle.vex_decode.specs.Fields.{Fields, PrefixForm, C4, C5, prefix_bytes, IsPrefix}
+use Rattle.vex_decode.specs.Spelling.{Syntax, imm_bytes, bytes_of, FitsReg, FitsImm, IsSyntax, Spells}
 use Rattle.vex_decode.proofs.Prefix.{pp_below, map_below, bit_below}
 
 -- a prefix has two or three bytes

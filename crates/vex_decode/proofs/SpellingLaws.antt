@@ -1,21 +1,20 @@
 -- The laws of spellings.
-use Rattle.std.specs.Prelude.{◌≡◌, ◌≢◌, ◌↔◌, refl, ℕ, ◌+◌, ◌-◌, ◌≤◌, ◌<◌, Bool, true, false, List, [], ◌∷◌, ◌++◌, length, take, drop, Option, Some, None, Ok, Err, if◌then◌else◌}
+use Rattle.std.specs.Prelude.{◌≡◌, ◌≢◌, refl, ℕ, Bool, true, false, List, [], ◌++◌, length, take, drop, Option, Some, None, Ok, Err, if◌then◌else◌}
 use Rattle.std.proofs.Common.{arith, ap, sym, ◌∙◌, subst, append-nil, length-append, length-take}
 use Rattle.std.proofs.lemmas.List.{take-append-drop}
 use Rattle.x86_operand.specs.declared.error.DecodeError.{DecodeError}
 use Rattle.x86_operand.specs.declared.error.DecodeError.TheVariants.{ExhaustedInput, InvalidOpcode}
 use Rattle.x86_operand.specs.Meaning.{Meaning}
 use Rattle.x86_permit.specs.Permission.{permits}
-use Rattle.x86_address.specs.Bytes.{IsBytes, Begins}
+use Rattle.x86_address.specs.Bytes.{IsBytes}
 use Rattle.x86_address.specs.Reading.{Reading}
 use Rattle.vex_rows.specs.Row.{Row, opcode_of}
 use Rattle.vex_decode.specs.Spelling.{Syntax, bytes_of, meant, Spells}
 use Rattle.vex_decode.specs.Walk.{walk}
 use Rattle.vex_decode.specs.Blocked.{taken, refused, blocked}
-use Rattle.vex_decode.specs.Laws.{PrefixFree, SpellingLength, SpellingBytes, OneMeaning, BeginsPermitted, BlockedOrBegun, MoreBytes, ExhaustedAtEnd, AreWithin, Decodes, MoreSettings, SameAnswer}
+use Rattle.vex_decode.specs.Laws.{PrefixFree, OneMeaning, BeginsPermitted, BlockedOrBegun, MoreBytes, ExhaustedAtEnd, MoreSettings, SameAnswer}
 use Rattle.vex_decode.proofs.Binds.{ok_same}
-use Rattle.vex_decode.proofs.SpellingBytes.{spelling_length, IsBytes-spelling}
-use Rattle.vex_decode.proofs.Spells.{walk-spelling, begun-not_blocked, Begun, not_blocked-spells, opcode_meant, spells-parts, refused-permitted}
+use Rattle.vex_decode.proofs.Spells.{walk-spelling, begun-not_blocked, not_blocked-spells, opcode_meant, spells-parts, refused-permitted}
 use Rattle.vex_decode.proofs.Readers.{IsReader-walk}
 use Rattle.vex_decode.proofs.Permitted.{permits-more}
 

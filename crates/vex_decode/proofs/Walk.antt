@@ -16,10 +16,12 @@ use Rattle.vex_rows.specs.declared.key.Map.TheVariants.{Map0F, Map0F38, Map0F3A}
 use Rattle.vex_rows.specs.declared.key.Pp.{Pp}
 use Rattle.vex_rows.specs.declared.key.Pp.TheVariants.{Plain, Prefix66, PrefixF3, PrefixF2}
 use Rattle.vex_rows.specs.Rules.{has_key, allows, map_number, pp_number}
-use Rattle.vex_rows.specs.Steps.{steps, Check, V0, L0, Reg, Mem, Group, VifMem}
+use Rattle.vex_rows.specs.declared.steps.Check.{Check}
+use Rattle.vex_rows.specs.declared.steps.Check.TheVariants.{V0, L0, Reg, Mem, Group, VifMem}
+use Rattle.vex_rows.specs.Steps.{steps}
 use Rattle.vex_rows.specs.Groups.{groups}
 use Rattle.vex_rows.specs.Table.{table}
-use Rattle.vex_rows.specs.Row.{Row, Among, IsRow, kinds_of, is_register, is_memory, is_group, is_group_check, has_groups, group_choices, permits_choice, group_allowed}
+use Rattle.vex_rows.specs.Row.{Row, Among, IsRow, kinds_of, is_register, is_memory, is_group, is_group_check, has_groups, group_choices, permits_choice, group_allowed, has_imm}
 use Rattle.vex_rows.specs.Tests.{is_prefix_check, is_modrm_check, is_late_check}
 use Rattle.vex_rows.proofs.Lists.{both-parts, from-list_all, list_all-each, found-find, find-only, among-append_left, among-append_right, among-append, from-map}
 use Rattle.vex_rows.proofs.Rows.{Chosen, chosen-row, row-chosen, checks_of}
@@ -29,7 +31,7 @@ use Rattle.vex_forms.specs.declared.slot.VvvvRule.TheVariants.{Named, Zero, Free
 use Rattle.vex_forms.specs.Slots.{v_rule, demands_v}
 use Rattle.vex_forms.proofs.Sound.{demanded, v_rule-demanded, v_rule-zero}
 use Rattle.vex_decode.specs.Fields.{Fields, PrefixForm, prefix_bytes, IsPrefix}
-use Rattle.vex_decode.specs.Spelling.{Syntax, has_imm, imm_bytes, bytes_of, FitsRule, FitsGroup, IsSyntax}
+use Rattle.vex_decode.specs.Spelling.{Syntax, imm_bytes, bytes_of, FitsRule, FitsGroup, IsSyntax}
 use Rattle.vex_decode.specs.Walk.{passes, Operands, read_prefix, key_of, entry_of, found, walk_form, row_of, syntax_of, walk}
 use Rattle.vex_decode.proofs.Prefix.{ReadsPrefix, read_prefix-again, read_prefix-written}
 use Rattle.vex_decode.proofs.Form.{ReadsForm, WritesForm, step_then, walk_form-again, walk_form-written}

@@ -1,5 +1,5 @@
 -- The laws of spellings.
-use Rattle.std.specs.Prelude.{◌≡◌, ◌≢◌, ◌↔◌, ℕ, ◌≤◌, ◌<◌, Bool, false, List, ◌++◌, length, take, Option, Some, None, IsTrue}
+use Rattle.std.specs.Prelude.{◌≡◌, ◌≢◌, ◌↔◌, ℕ, ◌≤◌, Bool, false, List, ◌++◌, length, take, Some, None, IsTrue}
 use Rattle.x86_operand.specs.declared.error.DecodeError.TheVariants.{ExhaustedInput}
 use Rattle.x86_operand.specs.Meaning.{Meaning}
 use Rattle.x86_permit.specs.Permission.{permits}

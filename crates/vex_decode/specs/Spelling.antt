@@ -2,7 +2,7 @@ use Rattle.std.specs.Prelude.{◌≡◌, ℕ, ◌<◌, Bool, true, false, List, 
 use Rattle.x86_operand.specs.Meaning.{Meaning}
 use Rattle.x86_address.specs.Place.{Place, place_bytes, IsPlace, kind_of, target}
 use Rattle.vex_rows.specs.Steps.{steps}
-use Rattle.vex_rows.specs.Row.{Row, IsRow}
+use Rattle.vex_rows.specs.Row.{Row, IsRow, has_imm}
 use Rattle.vex_forms.specs.declared.slot.VvvvRule.{VvvvRule}
 use Rattle.vex_forms.specs.declared.slot.VvvvRule.TheVariants.{Named, Zero, Free}
 use Rattle.vex_forms.specs.Slots.{v_rule}
@@ -17,10 +17,6 @@ pub record Syntax : Type 0 where
   pub reg : ℕ
   pub place : Place
   pub imm : ℕ
-
--- whether a row has an immediate byte
-unfoldable pub has_imm : Row → Bool
-has_imm row = (steps row.entry.form).imm
 
 -- the immediate byte, where there is one
 abbrev pub imm_bytes : Bool → ℕ → List ℕ

@@ -12,7 +12,9 @@ use Rattle.vex_rows.specs.declared.key.Pp.{Pp}
 use Rattle.vex_rows.specs.declared.key.Pp.TheVariants.{Plain, Prefix66, PrefixF3, PrefixF2}
 use Rattle.vex_rows.specs.Rules.{has_key}
 use Rattle.vex_rows.specs.Table.{table}
-use Rattle.vex_rows.specs.Steps.{Steps, steps, Check, V0, L0, Reg, Mem, Group, VifMem}
+use Rattle.vex_rows.specs.declared.steps.Check.{Check}
+use Rattle.vex_rows.specs.declared.steps.Check.TheVariants.{V0, L0, Reg, Mem, Group, VifMem}
+use Rattle.vex_rows.specs.Steps.{FormSteps, steps}
 use Rattle.vex_rows.specs.Groups.{groups}
 use Rattle.vex_rows.specs.Row.{Row, has_groups, is_group, is_register, is_memory}
 use Rattle.vex_decode.specs.Fields.{Fields, PrefixForm, C4, C5}
@@ -134,7 +136,7 @@ abbrev pub place_by : Bool → ℕ → ℕ → List ℕ → Reading Place
 place_by address mode rm bytes = if address then take_place mode rm bytes else Ok (Direct rm, bytes)
 
 -- the steps of a form from ModRM on
-abbrev pub walk_modrm : Entry → Fields → Steps → List ℕ → Reading Operands
+abbrev pub walk_modrm : Entry → Fields → FormSteps → List ℕ → Reading Operands
 walk_modrm entry f form bytes = do
   modrm ← take_byte bytes
   second ← check_all entry f (kind_of_mod (modrm.0 / 64)) ((modrm.0 / 8) % 8) form.second modrm.1
@@ -144,7 +146,7 @@ walk_modrm entry f form bytes = do
   Ok (record { reg = (modrm.0 / 8) % 8; place = place.0; imm = imm.0 }, imm.1)
 
 -- the steps of a form without ModRM
-abbrev pub walk_alone : Steps → List ℕ → Reading Operands
+abbrev pub walk_alone : FormSteps → List ℕ → Reading Operands
 walk_alone form bytes = do
   imm ← take_imm form.imm bytes
   Ok (record { reg = 0; place = NoPlace; imm = imm.0 }, imm.1)

@@ -17,7 +17,7 @@ use Rattle.vex_rows.specs.declared.key.Map.TheVariants.{Map0F, Map0F38, Map0F3A}
 use Rattle.vex_rows.specs.Rules.{map_number}
 use Rattle.vex_rows.specs.Steps.{steps}
 use Rattle.vex_rows.specs.Groups.{groups}
-use Rattle.vex_rows.specs.Row.{Row, IsRow, opcode_of, Among, kinds_of, group_choices, has_groups, is_group_check}
+use Rattle.vex_rows.specs.Row.{Row, IsRow, opcode_of, Among, kinds_of, group_choices, has_groups, is_group_check, has_imm}
 use Rattle.vex_rows.proofs.Lists.{both-parts, parts-both, from-list_all, from-map}
 use Rattle.vex_rows.proofs.Rows.{Chosen, chosen-row}
 use Rattle.vex_rows.proofs.Forms.{small_groups}
@@ -28,7 +28,7 @@ use Rattle.vex_forms.specs.Gives.{gives, slot_operand}
 use Rattle.vex_forms.specs.Tests.{immediates}
 use Rattle.vex_forms.proofs.Sound.{sound_row, named, v_rule-zero}
 use Rattle.vex_decode.specs.Fields.{Fields, PrefixForm, C4, C5, IsPrefix, FitsTwoBytes, CanSay, prefix_bytes}
-use Rattle.vex_decode.specs.Spelling.{Syntax, has_imm, imm_bytes, bytes_of, meant, FitsRule, FitsGroup, FitsReg, FitsImm, IsSyntax, SpellsBy}
+use Rattle.vex_decode.specs.Spelling.{Syntax, imm_bytes, bytes_of, meant, FitsRule, FitsGroup, FitsReg, FitsImm, IsSyntax, SpellsBy}
 use Rattle.vex_decode.proofs.Form.{alone_form}
 use Rattle.vex_encode.specs.Standard.{operand_at, number_of, imm_of, target_of, fits_two_bytes, shortest_form, fields_for, reg_for, assembled, candidate, standard}
 use Rattle.vex_encode.proofs.Candidate.{first_or_none, no_operand, e_given, map_same, slot_again}

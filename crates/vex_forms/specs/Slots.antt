@@ -9,7 +9,9 @@ use Rattle.x86_operand.specs.declared.register.RegisterBank.TheVariants.{Q, D, X
 use Rattle.x86_operand.specs.Kind.{Kind}
 use Rattle.vex_rows.specs.declared.form.Form.{Form}
 use Rattle.vex_rows.specs.declared.form.Form.TheVariants.{Nothing, VPS_71, VPS_72, VPS_73, VMOVSS_10, VMOVSD_10, VMOVSS_11, VMOVSD_11, VMOVLPS_12, VMOVHPS_16, Ev_G_xmm_imm8, G_xmm_Ed, G_xmm_Eq, Ed_G_xmm, Eq_G_xmm, VCVT_Gd_Ed_xmm, VCVT_Gd_Eq_xmm, VCVT_Gq_Ed_xmm, VCVT_Gq_Eq_xmm, M_G_xmm, M_G_xyLmm, M_G_ymm, Ud_G_xyLmm, Gd_U_xmm, Gd_U_ymm, Ud_G_xmm_imm8, E_G_xmm_imm8, E_xmm_G_ymm_imm8, G_M_xmm, G_M_ymm, G_ymm_M_xmm, G_E_xmm, G_U_xmm_vmaskmovdqu, G_xmm_E_xmm, G_xmm_E_ymm, G_E_ymm, G_ymm_E_ymm, G_ymm_E_xmm, G_E_xyLmm, E_G_xyLmm, G_Lmm_E_xmm, G_E_xyLmm_imm8, G_E_xmm_imm8, G_E_ymm_imm8, G_V_E_xyLmm, G_V_E_ymm, G_V_ymm_E_xmm, G_V_E_xmm, G_V_Ed_xmm, G_V_Eq_xmm, G_V_xmm_Ed, G_V_xmm_Eq, G_V_M_xmm, G_V_M_ymm, M_V_G_xmm, M_V_G_ymm, G_V_E_xyLmm_imm8, G_V_E_xmm_imm8, G_V_E_ymm_imm8, G_ymm_V_ymm_E_xmm_imm8, G_V_E_xmm_xmm4, G_V_E_ymm_ymm4, G_V_xmm_Ev_imm8, G_V_E, G_E_V, G_E_Ib, BMI1_F3, MXCSR, G_ExyL_V_xyLmm}
-use Rattle.vex_rows.specs.Steps.{steps, Check, V0, VifMem}
+use Rattle.vex_rows.specs.declared.steps.Check.{Check}
+use Rattle.vex_rows.specs.declared.steps.Check.TheVariants.{V0, VifMem}
+use Rattle.vex_rows.specs.Steps.{steps}
 use Rattle.vex_rows.specs.Row.{Row, is_memory}
 use Rattle.vex_forms.specs.declared.slot.Slot.{Slot}
 use Rattle.vex_forms.specs.declared.slot.Slot.TheVariants.{G, V, E, U8, I8, R4}

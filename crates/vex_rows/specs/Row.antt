@@ -8,7 +8,9 @@ use Rattle.vex_rows.specs.declared.entry.Entry.{Entry}
 use Rattle.vex_rows.specs.declared.form.Form.{Form}
 use Rattle.vex_rows.specs.declared.form.Form.TheVariants.{VMOVLPS_12, VMOVHPS_16}
 use Rattle.vex_rows.specs.Rules.{allows}
-use Rattle.vex_rows.specs.Steps.{steps, Check, V0, L0, Reg, Mem, Group, VifMem}
+use Rattle.vex_rows.specs.declared.steps.Check.{Check}
+use Rattle.vex_rows.specs.declared.steps.Check.TheVariants.{V0, L0, Reg, Mem, Group, VifMem}
+use Rattle.vex_rows.specs.Steps.{steps}
 use Rattle.vex_rows.specs.Groups.{groups}
 use Rattle.vex_rows.specs.Table.{table}
 
@@ -60,6 +62,10 @@ is_group (g ∷ gs) reg = g.0 == reg || is_group gs reg
 abbrev pub group_allowed : Form → ℕ → Option ℕ → Bool
 group_allowed form l None = true
 group_allowed form l (Some reg) = is_group (groups form l) reg
+
+-- whether a row has an immediate byte
+unfoldable pub has_imm : Row → Bool
+has_imm row = (steps row.entry.form).imm
 
 -- whether a check refuses no spelling of the row for its kind, L or group alone
 abbrev pub permits_choice : Row → Check → Bool

@@ -1,19 +1,12 @@
 use Rattle.std.specs.Prelude.{Bool, true, false, List, [], ◌∷◌}
+use Rattle.vex_rows.specs.declared.steps.Check.{Check}
+use Rattle.vex_rows.specs.declared.steps.Check.TheVariants.{V0, L0, Reg, Mem, Group, VifMem}
+use Rattle.vex_rows.specs.declared.steps.Steps.{Steps}
 use Rattle.vex_rows.specs.declared.form.Form.{Form}
 use Rattle.vex_rows.specs.declared.form.Form.TheVariants.{Nothing, VPS_71, VPS_72, VPS_73, VMOVSS_10, VMOVSD_10, VMOVSS_11, VMOVSD_11, VMOVLPS_12, VMOVHPS_16, Ev_G_xmm_imm8, G_xmm_Ed, G_xmm_Eq, Ed_G_xmm, Eq_G_xmm, VCVT_Gd_Ed_xmm, VCVT_Gd_Eq_xmm, VCVT_Gq_Ed_xmm, VCVT_Gq_Eq_xmm, M_G_xmm, M_G_xyLmm, M_G_ymm, Ud_G_xyLmm, Gd_U_xmm, Gd_U_ymm, Ud_G_xmm_imm8, E_G_xmm_imm8, E_xmm_G_ymm_imm8, G_M_xmm, G_M_ymm, G_ymm_M_xmm, G_E_xmm, G_U_xmm_vmaskmovdqu, G_xmm_E_xmm, G_xmm_E_ymm, G_E_ymm, G_ymm_E_ymm, G_ymm_E_xmm, G_E_xyLmm, E_G_xyLmm, G_Lmm_E_xmm, G_E_xyLmm_imm8, G_E_xmm_imm8, G_E_ymm_imm8, G_V_E_xyLmm, G_V_E_ymm, G_V_ymm_E_xmm, G_V_E_xmm, G_V_Ed_xmm, G_V_Eq_xmm, G_V_xmm_Ed, G_V_xmm_Eq, G_V_M_xmm, G_V_M_ymm, M_V_G_xmm, M_V_G_ymm, G_V_E_xyLmm_imm8, G_V_E_xmm_imm8, G_V_E_ymm_imm8, G_ymm_V_ymm_E_xmm_imm8, G_V_E_xmm_xmm4, G_V_E_ymm_ymm4, G_V_xmm_Ev_imm8, G_V_E, G_E_V, G_E_Ib, BMI1_F3, MXCSR, G_ExyL_V_xyLmm}
 
--- a check that a form makes: vvvv is 0; L is 0; E is a register; E is in memory; the reg field is one of the form's
--- groups; vvvv is 0 where E is in memory
-pub data Check : Type 0 where
-  V0 : Check
-  L0 : Check
-  Reg : Check
-  Mem : Check
-  Group : Check
-  VifMem : Check
-
 -- the steps of a form in their order: checks, the ModRM byte, checks, SIB and displacement, checks, the immediate byte
-pub record Steps : Type 0 where
+pub record FormSteps : Type 0 where
   pub first : List Check
   pub modrm : Bool
   pub second : List Check
@@ -22,19 +15,19 @@ pub record Steps : Type 0 where
   pub imm : Bool
 
 -- a form without ModRM
-abbrev pub alone : List Check → Steps
+abbrev pub alone : List Check → FormSteps
 alone first = record { first = first; modrm = false; second = []; address = false; third = []; imm = false }
 
 -- a form whose ModRM byte names a register, so that nothing follows it for the operand E
-abbrev pub direct : List Check → List Check → Bool → Steps
+abbrev pub direct : List Check → List Check → Bool → FormSteps
 direct first second imm = record { first = first; modrm = true; second = second; address = false; third = []; imm = imm }
 
 -- a form that reads an address
-abbrev pub addressed : List Check → List Check → List Check → Bool → Steps
+abbrev pub addressed : List Check → List Check → List Check → Bool → FormSteps
 addressed first second third imm = record { first = first; modrm = true; second = second; address = true; third = third; imm = imm }
 
 -- the steps of each form
-unfoldable pub steps : Form → Steps
+unfoldable pub steps : Form → FormSteps
 steps Nothing = alone (V0 ∷ [])
 steps VPS_71 = direct [] (Reg ∷ Group ∷ []) true
 steps VPS_72 = direct [] (Reg ∷ Group ∷ []) true
@@ -104,3 +97,14 @@ steps G_E_Ib = addressed [] [] [] true
 steps BMI1_F3 = addressed [] (Group ∷ []) [] false
 steps MXCSR = addressed [] (Group ∷ Mem ∷ []) [] false
 steps G_ExyL_V_xyLmm = addressed [] [] [] false
+
+-- the steps that the code keeps as slices
+abbrev pub steps_seen : Steps → FormSteps
+steps_seen s = record {
+  first = s.first.now;
+  modrm = s.modrm;
+  second = s.second.now;
+  address = s.address;
+  third = s.third.now;
+  imm = s.imm;
+}

@@ -6,7 +6,9 @@ use Rattle.vex_rows.specs.declared.entry.Rule.{Rule}
 use Rattle.vex_rows.specs.declared.entry.Rule.TheVariants.{Any, Zero, One}
 use Rattle.vex_rows.specs.declared.form.Form.{Form}
 use Rattle.vex_rows.specs.Rules.{map_number, pp_number}
-use Rattle.vex_rows.specs.Steps.{Steps, Check, V0, L0, Reg, Mem, Group, VifMem}
+use Rattle.vex_rows.specs.declared.steps.Check.{Check}
+use Rattle.vex_rows.specs.declared.steps.Check.TheVariants.{V0, L0, Reg, Mem, Group, VifMem}
+use Rattle.vex_rows.specs.Steps.{FormSteps}
 use Rattle.vex_rows.specs.Groups.{groups}
 
 -- whether two rules allow one bit
@@ -59,7 +61,7 @@ is_none _ = false
 -- whether the steps of a form are in order: checks of prefix fields, then ModRM, checks of ModRM, the address, and late
 -- checks; without ModRM nothing of it is checked or read; a form that reads no address checks that the operand is a
 -- register
-abbrev pub is_orderly : Steps → Bool
+abbrev pub is_orderly : FormSteps → Bool
 is_orderly form =
     list_all is_prefix_check form.first && list_all is_modrm_check form.second && list_all is_late_check form.third
     && (if form.modrm then form.address || list_any is_register_check form.second

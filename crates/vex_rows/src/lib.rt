@@ -4,8 +4,10 @@
 mod entry;
 mod form;
 mod key;
+mod steps;
 mod table;
 
 pub use entry::{Entry, Rule};
 pub use form::Form;
 pub use key::{Key, Map, Pp, Prefix};
+pub use steps::{Check, Steps, steps_of};
