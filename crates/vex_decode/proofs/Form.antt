@@ -1,13 +1,12 @@
 -- What the steps of a form read was so written.
-use Rattle.std.specs.Prelude.{◌≡◌, refl, ◌⊎◌, ℕ, ◌+◌, ◌*◌, ◌/◌, ◌%◌, ◌<◌, Bool, true, false, not, ◌&&◌, ◌||◌, ◌==◌, List, [], ◌∷◌, ◌++◌, Ok, Err, if◌then◌else◌}
+use Rattle.std.specs.Prelude.{◌≡◌, refl, ◌⊎◌, ℕ, ◌+◌, ◌*◌, ◌/◌, ◌%◌, ◌<◌, Bool, true, false, not, ◌&&◌, ◌||◌, ◌==◌, List, [], ◌∷◌, ◌++◌, Ok, if◌then◌else◌}
 use Rattle.std.specs.List.{list_all, list_any}
-use Rattle.std.proofs.Common.{arith, ap, ap₂, sym, ◌∙◌, inl, inr, subst, subst₂}
+use Rattle.std.proofs.Common.{ap, ap₂, sym, ◌∙◌, inl, inr, subst, subst₂}
 use Rattle.std.proofs.lemmas.Bool.{eqb-true}
-use Rattle.std.proofs.lemmas.Bool.Decides.{nat_tests}
 use Rattle.x86_operand.specs.Kind.{Kind, WithoutModRM, InRegister, InMemory}
 use Rattle.x86_address.specs.Bytes.{IsBytes}
 use Rattle.x86_address.specs.Place.{Place, NoPlace, Direct, Based, RipBased, Scaled, Baseless, mod_of_displacement, IsPlace, kind_of, mod_of, rm_of, tail_of, place_bytes}
-use Rattle.x86_address.specs.Reading.{Reading, ◌>>=◌, take_byte, take_place}
+use Rattle.x86_address.specs.Reading.{Reading, ◌>>=◌, take_byte}
 use Rattle.x86_address.specs.Bytes.{Displacement, Absent, Short, Long}
 use Rattle.x86_address.proofs.Fields.{packed, high_field_below, low_field_below, high_field, middle_field, low_field}
 use Rattle.x86_address.proofs.PlaceBytes.{place_bytes_split, rm_of_below}
@@ -18,7 +17,7 @@ use Rattle.vex_rows.specs.declared.steps.Check.{Check}
 use Rattle.vex_rows.specs.declared.steps.Check.TheVariants.{V0, L0, Reg, Mem, Group, VifMem}
 use Rattle.vex_rows.specs.Steps.{FormSteps, steps}
 use Rattle.vex_rows.specs.Row.{Among, kinds_of, is_register}
-use Rattle.vex_rows.specs.Tests.{is_orderly, is_prefix_check, is_modrm_check, is_late_check, is_register_check, is_none}
+use Rattle.vex_rows.specs.Tests.{is_prefix_check, is_modrm_check, is_late_check, is_register_check, is_none}
 use Rattle.vex_rows.proofs.Lists.{both-parts, parts-both}
 use Rattle.vex_rows.proofs.Forms.{orderly}
 use Rattle.vex_decode.specs.Fields.{Fields}
@@ -33,7 +32,7 @@ pub record Passed (entry : Entry) (f : Fields) (kind : Kind) (reg : ℕ) (cs : L
 check_all-passed : (entry : Entry) (f : Fields) (kind : Kind) (reg : ℕ) (cs : List Check) (bytes : List ℕ) → Answers (λ _ rest. Passed entry f kind reg cs bytes rest) (check_all entry f kind reg cs bytes)
 check_all-passed entry f kind reg [] bytes = Answers-ok _ _ bytes (record { all = refl; same = refl })
 check_all-passed entry f kind reg (c ∷ cs) bytes =
-  Answers-if _ _ _ _
+    Answers-if _ _ _ _
     (λ h value rest e. let later = check_all-passed entry f kind reg cs bytes value rest e in record { all = parts-both _ _ h later.all; same = later.same })
     (λ h value rest e. cc)
 
@@ -41,8 +40,8 @@ check_all-passed entry f kind reg (c ∷ cs) bytes =
 pub check_all-again : (entry : Entry) (f : Fields) (kind : Kind) (reg : ℕ) (cs : List Check) (bytes : List ℕ) → list_all (passes entry f kind reg) cs ≡ true → check_all entry f kind reg cs bytes ≡ Ok (tt, bytes)
 check_all-again entry f kind reg [] bytes h = refl
 check_all-again entry f kind reg (c ∷ cs) bytes h =
-  let parts = both-parts (passes entry f kind reg c) (list_all (passes entry f kind reg) cs) h in
-  rw (parts.0) (check_all-again entry f kind reg cs bytes parts.1)
+    let parts = both-parts (passes entry f kind reg c) (list_all (passes entry f kind reg) cs) h in
+    rw (parts.0) (check_all-again entry f kind reg cs bytes parts.1)
 
 -- the immediate byte that was read
 pub record ReadsImm (has : Bool) (bytes : List ℕ) (imm : ℕ) (rest : List ℕ) : Type 0 where
@@ -52,7 +51,7 @@ pub record ReadsImm (has : Bool) (bytes : List ℕ) (imm : ℕ) (rest : List ℕ
 
 take_imm-written : (has : Bool) (bytes : List ℕ) → IsBytes bytes → Answers (ReadsImm has bytes) (take_imm has bytes)
 take_imm-written true bytes is = λ value rest e.
-  let read = take_byte-written bytes is value rest e in record { fits = read.is_byte; written = read.written; left = read.left }
+    let read = take_byte-written bytes is value rest e in record { fits = read.is_byte; written = read.written; left = read.left }
 take_imm-written false bytes is = Answers-ok _ 0 bytes (record { fits = refl; written = refl; left = is })
 
 take_imm-again : (has : Bool) (imm : ℕ) (rest : List ℕ) → FitsImm has imm → take_imm has (imm_bytes has imm ++ rest) ≡ Ok (imm, rest)
@@ -114,33 +113,33 @@ two_kinds false kind e = inr e
 -- the bytes of a place, from a ModRM byte and what was read after it
 modrm-written : (n : ℕ) (rest after : List ℕ) (p : Place) → (kind_of p ≡ InRegister) ⊎ (kind_of p ≡ InMemory) → mod_of p ≡ n / 64 → rm_of p ≡ n % 8 → rest ≡ tail_of p ++ after → n ∷ rest ≡ place_bytes ((n / 8) % 8) p ++ after
 modrm-written n rest after p kind mode rm e =
-  let byte : 64 * mod_of p + 8 * ((n / 8) % 8) + rm_of p ≡ n = ap₂ (λ m r. 64 * m + 8 * ((n / 8) % 8) + r) mode rm ∙ packed n in
-  ap₂ ◌∷◌ (sym byte) e ∙ ap (λ bytes. bytes ++ after) (sym (place_bytes_split ((n / 8) % 8) p kind))
+    let byte : 64 * mod_of p + 8 * ((n / 8) % 8) + rm_of p ≡ n = ap₂ (λ m r. 64 * m + 8 * ((n / 8) % 8) + r) mode rm ∙ packed n in
+    ap₂ ◌∷◌ (sym byte) e ∙ ap (λ bytes. bytes ++ after) (sym (place_bytes_split ((n / 8) % 8) p kind))
 
 walk_modrm-written : (entry : Entry) (f : Fields) (form : FormSteps) (bytes : List ℕ) → (form.address || list_any is_register_check form.second) ≡ true → IsBytes bytes → Answers (ReadsModrm entry f form bytes) (walk_modrm entry f form bytes)
 walk_modrm-written entry f form bytes direct is =
-  Answers-bind (ReadsByte bytes) _ (take_byte bytes) _ (take_byte-written bytes is) (λ n rest modrm.
+    Answers-bind (ReadsByte bytes) _ (take_byte bytes) _ (take_byte-written bytes is) (λ n rest modrm.
     Answers-bind (λ _ r. Passed entry f (kind_of_mod (n / 64)) ((n / 8) % 8) form.second rest r) _ (check_all entry f (kind_of_mod (n / 64)) ((n / 8) % 8) form.second rest) _ (check_all-passed entry f (kind_of_mod (n / 64)) ((n / 8) % 8) form.second rest) (λ _ r2 second.
-      let bytes2 : IsBytes r2 = subst IsBytes (sym second.same) modrm.left in
-      let registers : form.address ≡ false → n / 64 ≡ 3 = λ none. register_passed entry f (n / 64) ((n / 8) % 8) form.second (subst (λ a. (a || list_any is_register_check form.second) ≡ true) none direct) second.all in
-      Answers-bind (ReadsPlace (n / 64) (n % 8) r2) _ (place_by form.address (n / 64) (n % 8) r2) _ (place_by-written form.address (n / 64) (n % 8) r2 (high_field_below n modrm.is_byte) (low_field_below n) registers bytes2) (λ p r3 place.
-        Answers-bind (λ _ r. Passed entry f (kind_of_mod (n / 64)) ((n / 8) % 8) form.third r3 r) _ (check_all entry f (kind_of_mod (n / 64)) ((n / 8) % 8) form.third r3) _ (check_all-passed entry f (kind_of_mod (n / 64)) ((n / 8) % 8) form.third r3) (λ _ r4 third.
-          Answers-bind (ReadsImm form.imm r4) _ (take_imm form.imm r4) _ (take_imm-written form.imm r4 (subst IsBytes (sym third.same) place.left)) (λ imm r5 read.
-            let kinds = two_kinds (n / 64 == 3) (kind_of p) place.kind_is in
-            Answers-ok _ (record { reg = (n / 8) % 8; place = p; imm = imm }) r5 (record {
-              second = subst (λ kind. list_all (passes entry f kind ((n / 8) % 8)) form.second ≡ true) (sym place.kind_is) second.all;
-              third = subst (λ kind. list_all (passes entry f kind ((n / 8) % 8)) form.third ≡ true) (sym place.kind_is) third.all;
-              kind = kinds;
-              reg = low_field_below (n / 8);
-              place = place.is_place;
-              imm = read.fits;
-              written = modrm.written ∙ modrm-written n rest (imm_bytes form.imm imm ++ r5) p kinds place.mod_is place.rm_is (sym second.same ∙ place.written ∙ ap (λ r. tail_of p ++ r) (sym third.same ∙ read.written));
-              left = read.left;
-            }))))))
+    let bytes2 : IsBytes r2 = subst IsBytes (sym second.same) modrm.left in
+    let registers : form.address ≡ false → n / 64 ≡ 3 = λ none. register_passed entry f (n / 64) ((n / 8) % 8) form.second (subst (λ a. (a || list_any is_register_check form.second) ≡ true) none direct) second.all in
+    Answers-bind (ReadsPlace (n / 64) (n % 8) r2) _ (place_by form.address (n / 64) (n % 8) r2) _ (place_by-written form.address (n / 64) (n % 8) r2 (high_field_below n modrm.is_byte) (low_field_below n) registers bytes2) (λ p r3 place.
+    Answers-bind (λ _ r. Passed entry f (kind_of_mod (n / 64)) ((n / 8) % 8) form.third r3 r) _ (check_all entry f (kind_of_mod (n / 64)) ((n / 8) % 8) form.third r3) _ (check_all-passed entry f (kind_of_mod (n / 64)) ((n / 8) % 8) form.third r3) (λ _ r4 third.
+    Answers-bind (ReadsImm form.imm r4) _ (take_imm form.imm r4) _ (take_imm-written form.imm r4 (subst IsBytes (sym third.same) place.left)) (λ imm r5 read.
+    let kinds = two_kinds (n / 64 == 3) (kind_of p) place.kind_is in
+    Answers-ok _ (record { reg = (n / 8) % 8; place = p; imm = imm }) r5 (record {
+      second = subst (λ kind. list_all (passes entry f kind ((n / 8) % 8)) form.second ≡ true) (sym place.kind_is) second.all;
+      third = subst (λ kind. list_all (passes entry f kind ((n / 8) % 8)) form.third ≡ true) (sym place.kind_is) third.all;
+      kind = kinds;
+      reg = low_field_below (n / 8);
+      place = place.is_place;
+      imm = read.fits;
+      written = modrm.written ∙ modrm-written n rest (imm_bytes form.imm imm ++ r5) p kinds place.mod_is place.rm_is (sym second.same ∙ place.written ∙ ap (λ r. tail_of p ++ r) (sym third.same ∙ read.written));
+      left = read.left;
+    }))))))
 
 walk_alone-written : (form : FormSteps) (bytes : List ℕ) → IsBytes bytes → Answers (λ read rest. (read.place ≡ NoPlace) × (read.reg ≡ 0) × ReadsImm form.imm bytes read.imm rest) (walk_alone form bytes)
 walk_alone-written form bytes is =
-  Answers-bind (ReadsImm form.imm bytes) _ (take_imm form.imm bytes) _ (take_imm-written form.imm bytes is) (λ imm rest read.
+    Answers-bind (ReadsImm form.imm bytes) _ (take_imm form.imm bytes) _ (take_imm-written form.imm bytes is) (λ imm rest read.
     Answers-ok _ (record { reg = 0; place = NoPlace; imm = imm }) rest (refl, refl, read))
 
 -- what is so with ModRM, and what is so without it
@@ -154,7 +153,7 @@ without_modrm false p q h e = h
 
 -- what the form of an entry does after its first checks
 after_first : (entry : Entry) →
-  (if (steps entry.form).modrm then (steps entry.form).address || list_any is_register_check (steps entry.form).second
+    (if (steps entry.form).modrm then (steps entry.form).address || list_any is_register_check (steps entry.form).second
     else is_none (steps entry.form).second && is_none (steps entry.form).third && not (steps entry.form).address) ≡ true
 after_first entry = (both-parts (list_all is_prefix_check (steps entry.form).first && list_all is_modrm_check (steps entry.form).second && list_all is_late_check (steps entry.form).third) _ (orderly entry.form)).1
 
@@ -170,13 +169,13 @@ pub record Alone (form : FormSteps) : Type 0 where
 
 pub alone_form : (entry : Entry) → (steps entry.form).modrm ≡ false → Alone (steps entry.form)
 alone_form entry h =
-  let all = without_modrm (steps entry.form).modrm ((steps entry.form).address || list_any is_register_check (steps entry.form).second) (is_none (steps entry.form).second && is_none (steps entry.form).third && not (steps entry.form).address) (after_first entry) h in
-  let parts = both-parts (is_none (steps entry.form).second && is_none (steps entry.form).third) (not (steps entry.form).address) all in
-  let lists = both-parts (is_none (steps entry.form).second) (is_none (steps entry.form).third) parts.0 in
-  record { second = no_checks _ lists.0; third = no_checks _ lists.1; address = not_true (steps entry.form).address parts.1 } where
-    not_true : (b : Bool) → not b ≡ true → b ≡ false
-    not_true true h = cc
-    not_true false h = refl
+    let all = without_modrm (steps entry.form).modrm ((steps entry.form).address || list_any is_register_check (steps entry.form).second) (is_none (steps entry.form).second && is_none (steps entry.form).third && not (steps entry.form).address) (after_first entry) h in
+    let parts = both-parts (is_none (steps entry.form).second && is_none (steps entry.form).third) (not (steps entry.form).address) all in
+    let lists = both-parts (is_none (steps entry.form).second) (is_none (steps entry.form).third) parts.0 in
+    record { second = no_checks _ lists.0; third = no_checks _ lists.1; address = not_true (steps entry.form).address parts.1 } where
+      not_true : (b : Bool) → not b ≡ true → b ≡ false
+      not_true true h = cc
+      not_true false h = refl
 
 pub addressed_form : (entry : Entry) → (steps entry.form).modrm ≡ true → ((steps entry.form).address || list_any is_register_check (steps entry.form).second) ≡ true
 addressed_form entry h = with_modrm (steps entry.form).modrm ((steps entry.form).address || list_any is_register_check (steps entry.form).second) (is_none (steps entry.form).second && is_none (steps entry.form).third && not (steps entry.form).address) (after_first entry) h
@@ -202,29 +201,36 @@ fits_no_reg false reg h k = k
 pub walk_form-written : (entry : Entry) (f : Fields) (bytes : List ℕ) → IsBytes bytes → Answers (ReadsForm entry f bytes) (walk_form entry f bytes)
 unfolding walk_form
 walk_form-written entry f bytes is =
-  Answers-bind (λ _ r. Passed entry f WithoutModRM 0 (steps entry.form).first bytes r) _ (check_all entry f WithoutModRM 0 (steps entry.form).first bytes) _ (check_all-passed entry f WithoutModRM 0 (steps entry.form).first bytes) (λ _ rest first.
+    Answers-bind (λ _ r. Passed entry f WithoutModRM 0 (steps entry.form).first bytes r) _ (check_all entry f WithoutModRM 0 (steps entry.form).first bytes) _ (check_all-passed entry f WithoutModRM 0 (steps entry.form).first bytes) (λ _ rest first.
     let left : IsBytes rest = subst IsBytes (sym first.same) is in
     Answers-if (ReadsForm entry f bytes) (steps entry.form).modrm (walk_modrm entry f (steps entry.form) rest) (walk_alone (steps entry.form) rest)
-      (λ h value after e.
-        let read = walk_modrm-written entry f (steps entry.form) rest (addressed_form entry h) left value after e in
-        record {
-          first = first.all; second = read.second; third = read.third; kind = among_kinds _ _ h read.kind;
-          reg = fits_reg _ _ h read.reg; place = read.place; imm = read.imm; written = sym first.same ∙ read.written; left = read.left;
-        })
-      (λ h value after e.
-        let read = walk_alone-written (steps entry.form) rest left value after e in
-        let alone = alone_form entry h in
-        record {
-          first = first.all;
-          second = subst (λ cs. list_all (passes entry f (kind_of value.place) value.reg) cs ≡ true) (sym alone.second) refl;
-          third = subst (λ cs. list_all (passes entry f (kind_of value.place) value.reg) cs ≡ true) (sym alone.third) refl;
-          kind = among_alone _ _ h (ap kind_of read.0);
-          reg = fits_no_reg _ _ h read.1;
-          place = subst IsPlace (sym read.0) tt;
-          imm = read.2.fits;
-          written = sym first.same ∙ read.2.written ∙ ap (λ p. place_bytes value.reg p ++ (imm_bytes (steps entry.form).imm value.imm ++ after)) (sym read.0);
-          left = read.2.left;
-        }))
+    (λ h value after e.
+    let read = walk_modrm-written entry f (steps entry.form) rest (addressed_form entry h) left value after e in
+    record {
+      first = first.all;
+      second = read.second;
+      third = read.third;
+      kind = among_kinds _ _ h read.kind;
+      reg = fits_reg _ _ h read.reg;
+      place = read.place;
+      imm = read.imm;
+      written = sym first.same ∙ read.written;
+      left = read.left;
+    })
+    (λ h value after e.
+    let read = walk_alone-written (steps entry.form) rest left value after e in
+    let alone = alone_form entry h in
+    record {
+      first = first.all;
+      second = subst (λ cs. list_all (passes entry f (kind_of value.place) value.reg) cs ≡ true) (sym alone.second) refl;
+      third = subst (λ cs. list_all (passes entry f (kind_of value.place) value.reg) cs ≡ true) (sym alone.third) refl;
+      kind = among_alone _ _ h (ap kind_of read.0);
+      reg = fits_no_reg _ _ h read.1;
+      place = subst IsPlace (sym read.0) tt;
+      imm = read.2.fits;
+      written = sym first.same ∙ read.2.written ∙ ap (λ p. place_bytes value.reg p ++ (imm_bytes (steps entry.form).imm value.imm ++ after)) (sym read.0);
+      left = read.2.left;
+    }))
 
 -- one step answers, and then the next
 pub step_then : {A B : Type 0} (step : Reading A) (next : A × List ℕ → Reading B) (read : A × List ℕ) (answer : Reading B) → step ≡ Ok read → next read ≡ answer → (step >>= next) ≡ answer
@@ -276,30 +282,30 @@ pub record WritesForm (entry : Entry) (f : Fields) (read : Operands) : Type 0 wh
   pub imm : FitsImm (steps entry.form).imm read.imm
 
 walk_modrm-again : (entry : Entry) (f : Fields) (form : FormSteps) (read : Operands) (rest : List ℕ) →
-  list_all (passes entry f (kind_of read.place) read.reg) form.second ≡ true →
-  list_all (passes entry f (kind_of read.place) read.reg) form.third ≡ true →
-  (form.address || list_any is_register_check form.second) ≡ true →
-  (kind_of read.place ≡ InRegister) ⊎ (kind_of read.place ≡ InMemory) → read.reg < 8 → IsPlace read.place → FitsImm form.imm read.imm →
-  walk_modrm entry f form (place_bytes read.reg read.place ++ (imm_bytes form.imm read.imm ++ rest)) ≡ Ok (read, rest)
+    list_all (passes entry f (kind_of read.place) read.reg) form.second ≡ true →
+    list_all (passes entry f (kind_of read.place) read.reg) form.third ≡ true →
+    (form.address || list_any is_register_check form.second) ≡ true →
+    (kind_of read.place ≡ InRegister) ⊎ (kind_of read.place ≡ InMemory) → read.reg < 8 → IsPlace read.place → FitsImm form.imm read.imm →
+    walk_modrm entry f form (place_bytes read.reg read.place ++ (imm_bytes form.imm read.imm ++ rest)) ≡ Ok (read, rest)
 walk_modrm-again entry f form read rest second third direct kind reg place imm =
-  let p = read.place in
-  let n : ℕ = 64 * mod_of p + 8 * read.reg + rm_of p in
-  let more : List ℕ = imm_bytes form.imm read.imm ++ rest in
-  let low = rm_of_below p place in
-  let high_is : n / 64 ≡ mod_of p = high_field (mod_of p) read.reg (rm_of p) reg low in
-  let reg_is : (n / 8) % 8 ≡ read.reg = middle_field (mod_of p) read.reg (rm_of p) reg low in
-  let rm_is : n % 8 ≡ rm_of p = low_field (mod_of p) read.reg (rm_of p) low in
-  let kind_is : kind_of_mod (n / 64) ≡ kind_of p = ap kind_of_mod high_is ∙ kind_by_mod p kind in
-  let second' : list_all (passes entry f (kind_of_mod (n / 64)) ((n / 8) % 8)) form.second ≡ true = subst₂ (λ k r. list_all (passes entry f k r) form.second ≡ true) (sym kind_is) (sym reg_is) second in
-  let third' : list_all (passes entry f (kind_of_mod (n / 64)) ((n / 8) % 8)) form.third ≡ true = subst₂ (λ k r. list_all (passes entry f k r) form.third ≡ true) (sym kind_is) (sym reg_is) third in
-  let registers : form.address ≡ false → is_register (kind_of p) ≡ true = λ none. only_register entry f (kind_of p) read.reg form.second (subst (λ a. (a || list_any is_register_check form.second) ≡ true) none direct) second in
-  let placed : place_by form.address (n / 64) (n % 8) (tail_of p ++ more) ≡ Ok (p, more) = subst₂ (λ m r. place_by form.address m r (tail_of p ++ more) ≡ Ok (p, more)) (sym high_is) (sym rm_is) (place_by-again form.address p more place kind registers) in
-  ap (λ bytes. walk_modrm entry f form (bytes ++ more)) (place_bytes_split read.reg p kind)
-  ∙ step_then (check_all entry f (kind_of_mod (n / 64)) ((n / 8) % 8) form.second (tail_of p ++ more)) _ (tt, tail_of p ++ more) _ (check_all-again entry f (kind_of_mod (n / 64)) ((n / 8) % 8) form.second (tail_of p ++ more) second')
+    let p = read.place in
+    let n : ℕ = 64 * mod_of p + 8 * read.reg + rm_of p in
+    let more : List ℕ = imm_bytes form.imm read.imm ++ rest in
+    let low = rm_of_below p place in
+    let high_is : n / 64 ≡ mod_of p = high_field (mod_of p) read.reg (rm_of p) reg low in
+    let reg_is : (n / 8) % 8 ≡ read.reg = middle_field (mod_of p) read.reg (rm_of p) reg low in
+    let rm_is : n % 8 ≡ rm_of p = low_field (mod_of p) read.reg (rm_of p) low in
+    let kind_is : kind_of_mod (n / 64) ≡ kind_of p = ap kind_of_mod high_is ∙ kind_by_mod p kind in
+    let second' : list_all (passes entry f (kind_of_mod (n / 64)) ((n / 8) % 8)) form.second ≡ true = subst₂ (λ k r. list_all (passes entry f k r) form.second ≡ true) (sym kind_is) (sym reg_is) second in
+    let third' : list_all (passes entry f (kind_of_mod (n / 64)) ((n / 8) % 8)) form.third ≡ true = subst₂ (λ k r. list_all (passes entry f k r) form.third ≡ true) (sym kind_is) (sym reg_is) third in
+    let registers : form.address ≡ false → is_register (kind_of p) ≡ true = λ none. only_register entry f (kind_of p) read.reg form.second (subst (λ a. (a || list_any is_register_check form.second) ≡ true) none direct) second in
+    let placed : place_by form.address (n / 64) (n % 8) (tail_of p ++ more) ≡ Ok (p, more) = subst₂ (λ m r. place_by form.address m r (tail_of p ++ more) ≡ Ok (p, more)) (sym high_is) (sym rm_is) (place_by-again form.address p more place kind registers) in
+    ap (λ bytes. walk_modrm entry f form (bytes ++ more)) (place_bytes_split read.reg p kind)
+    ∙ step_then (check_all entry f (kind_of_mod (n / 64)) ((n / 8) % 8) form.second (tail_of p ++ more)) _ (tt, tail_of p ++ more) _ (check_all-again entry f (kind_of_mod (n / 64)) ((n / 8) % 8) form.second (tail_of p ++ more) second')
     (step_then (place_by form.address (n / 64) (n % 8) (tail_of p ++ more)) _ (p, more) _ placed
-      (step_then (check_all entry f (kind_of_mod (n / 64)) ((n / 8) % 8) form.third more) _ (tt, more) _ (check_all-again entry f (kind_of_mod (n / 64)) ((n / 8) % 8) form.third more third')
-        (step_then (take_imm form.imm more) _ (read.imm, rest) _ (take_imm-again form.imm read.imm rest imm)
-          (λ i. Ok (record { reg = reg_is i; place = p; imm = read.imm }, rest)))))
+    (step_then (check_all entry f (kind_of_mod (n / 64)) ((n / 8) % 8) form.third more) _ (tt, more) _ (check_all-again entry f (kind_of_mod (n / 64)) ((n / 8) % 8) form.third more third')
+    (step_then (take_imm form.imm more) _ (read.imm, rest) _ (take_imm-again form.imm read.imm rest imm)
+    (λ i. Ok (record { reg = reg_is i; place = p; imm = read.imm }, rest)))))
 
 kinds_with_modrm : (modrm : Bool) (kind : Kind) → modrm ≡ true → Among kind (if modrm then InRegister ∷ InMemory ∷ [] else WithoutModRM ∷ []) → (kind ≡ InRegister) ⊎ (kind ≡ InMemory)
 kinds_with_modrm true kind h (inl e) = inl e
@@ -330,8 +336,8 @@ no_place (Baseless k i n) e = cc
 
 walk_alone-again : (form : FormSteps) (read : Operands) (rest : List ℕ) → read.reg ≡ 0 → read.place ≡ NoPlace → FitsImm form.imm read.imm → walk_alone form (place_bytes read.reg read.place ++ (imm_bytes form.imm read.imm ++ rest)) ≡ Ok (read, rest)
 walk_alone-again form read rest reg place imm =
-  ap (λ p. walk_alone form (place_bytes read.reg p ++ (imm_bytes form.imm read.imm ++ rest))) place
-  ∙ step_then (take_imm form.imm (imm_bytes form.imm read.imm ++ rest)) _ (read.imm, rest) _ (take_imm-again form.imm read.imm rest imm)
+    ap (λ p. walk_alone form (place_bytes read.reg p ++ (imm_bytes form.imm read.imm ++ rest))) place
+    ∙ step_then (take_imm form.imm (imm_bytes form.imm read.imm ++ rest)) _ (read.imm, rest) _ (take_imm-again form.imm read.imm rest imm)
     (λ i. Ok (record { reg = sym reg i; place = sym place i; imm = read.imm }, rest))
 
 chosen_true : {A : Type 0} (b : Bool) (x y : A) → b ≡ true → (if b then x else y) ≡ x
@@ -348,10 +354,10 @@ unfolding walk_form
 walk_form-again entry f read rest is = by (steps entry.form).modrm refl where
   by : (b : Bool) → (steps entry.form).modrm ≡ b → walk_form entry f (place_bytes read.reg read.place ++ (imm_bytes (steps entry.form).imm read.imm ++ rest)) ≡ Ok (read, rest)
   by true h =
-    step_then (check_all entry f WithoutModRM 0 (steps entry.form).first _) _ (tt, _) _ (check_all-again entry f WithoutModRM 0 (steps entry.form).first (place_bytes read.reg read.place ++ (imm_bytes (steps entry.form).imm read.imm ++ rest)) is.first)
+      step_then (check_all entry f WithoutModRM 0 (steps entry.form).first _) _ (tt, _) _ (check_all-again entry f WithoutModRM 0 (steps entry.form).first (place_bytes read.reg read.place ++ (imm_bytes (steps entry.form).imm read.imm ++ rest)) is.first)
       (chosen_true (steps entry.form).modrm _ _ h
-        ∙ walk_modrm-again entry f (steps entry.form) read rest is.second is.third (addressed_form entry h) (kinds_with_modrm _ _ h is.kind) (reg_with_modrm _ _ h is.reg) is.place is.imm)
+      ∙ walk_modrm-again entry f (steps entry.form) read rest is.second is.third (addressed_form entry h) (kinds_with_modrm _ _ h is.kind) (reg_with_modrm _ _ h is.reg) is.place is.imm)
   by false h =
-    step_then (check_all entry f WithoutModRM 0 (steps entry.form).first _) _ (tt, _) _ (check_all-again entry f WithoutModRM 0 (steps entry.form).first (place_bytes read.reg read.place ++ (imm_bytes (steps entry.form).imm read.imm ++ rest)) is.first)
+      step_then (check_all entry f WithoutModRM 0 (steps entry.form).first _) _ (tt, _) _ (check_all-again entry f WithoutModRM 0 (steps entry.form).first (place_bytes read.reg read.place ++ (imm_bytes (steps entry.form).imm read.imm ++ rest)) is.first)
       (chosen_false (steps entry.form).modrm _ _ h
-        ∙ walk_alone-again (steps entry.form) read rest (reg_alone _ _ h is.reg) (no_place read.place (kinds_alone _ _ h is.kind)) is.imm)
+      ∙ walk_alone-again (steps entry.form) read rest (reg_alone _ _ h is.reg) (no_place read.place (kinds_alone _ _ h is.kind)) is.imm)

@@ -2,3 +2,9 @@ pub mod Binds
 pub mod Prefix
 pub mod Form
 pub mod Walk
+pub mod Spells
+pub mod SpellingBytes
+pub mod Readers
+pub mod Permitted
+pub mod SpellingLaws
+pub mod Computed

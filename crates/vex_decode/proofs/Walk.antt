@@ -1,13 +1,13 @@
 -- A decode reads again what a row writes, and what it reads was so written.
-use Rattle.std.specs.Prelude.{◌≡◌, refl, ◌⊎◌, ℕ, ◌≤◌, ◌<◌, Bool, true, false, not, ◌&&◌, ◌||◌, ◌==◌, List, [], ◌∷◌, ◌++◌, map, find, Ok, Err, Option, Some, None, if◌then◌else◌}
+use Rattle.std.specs.Prelude.{◌≡◌, refl, ◌⊎◌, ℕ, Bool, true, false, ◌&&◌, ◌||◌, ◌==◌, List, [], ◌∷◌, ◌++◌, map, Ok, Option, Some, None, if◌then◌else◌}
 use Rattle.std.specs.List.{list_all, list_any}
-use Rattle.std.proofs.Common.{arith, ap, ap₂, sym, ◌∙◌, inl, inr, subst, subst₂, append_assoc}
+use Rattle.std.proofs.Common.{arith, ap, ap₂, sym, ◌∙◌, inl, inr, subst, append_assoc}
 use Rattle.std.proofs.lemmas.Bool.{eqb-true, eq-eqb}
 use Rattle.x86_opcode.specs.declared.Opcode.{Opcode}
-use Rattle.x86_operand.specs.Kind.{Kind, WithoutModRM, InRegister, InMemory}
+use Rattle.x86_operand.specs.Kind.{Kind, WithoutModRM}
 use Rattle.x86_address.specs.Bytes.{IsBytes}
 use Rattle.x86_address.specs.Place.{kind_of, place_bytes}
-use Rattle.x86_address.specs.Reading.{Reading, ◌>>=◌, take_byte}
+use Rattle.x86_address.specs.Reading.{take_byte}
 use Rattle.x86_address.proofs.Reader.{Answers, Answers-ok, Answers-bind, ReadsByte, take_byte-written}
 use Rattle.vex_rows.specs.declared.entry.Entry.{Entry}
 use Rattle.vex_rows.specs.declared.form.Form.{Form}
@@ -23,15 +23,15 @@ use Rattle.vex_rows.specs.Groups.{groups}
 use Rattle.vex_rows.specs.Table.{table}
 use Rattle.vex_rows.specs.Row.{Row, Among, IsRow, kinds_of, is_register, is_memory, is_group, is_group_check, has_groups, group_choices, permits_choice, group_allowed, has_imm}
 use Rattle.vex_rows.specs.Tests.{is_prefix_check, is_modrm_check, is_late_check}
-use Rattle.vex_rows.proofs.Lists.{both-parts, parts-both, from-list_all, list_all-each, found-find, find-only, among-append_left, among-append_right, among-append, among-map, from-map}
+use Rattle.vex_rows.proofs.Lists.{both-parts, from-list_all, list_all-each, found-find, find-only, among-append_left, among-append_right, among-append, from-map}
 use Rattle.vex_rows.proofs.Rows.{Chosen, chosen-row, row-chosen, checks_of}
-use Rattle.vex_rows.proofs.Forms.{orderly, one_entry, HasKey, from-has_key, to-has_key}
+use Rattle.vex_rows.proofs.Forms.{orderly, one_entry, from-has_key, to-has_key}
 use Rattle.vex_forms.specs.declared.slot.VvvvRule.{VvvvRule}
 use Rattle.vex_forms.specs.declared.slot.VvvvRule.TheVariants.{Named, Zero, Free}
 use Rattle.vex_forms.specs.Slots.{v_rule, demands_v}
 use Rattle.vex_forms.proofs.Sound.{demanded, v_rule-demanded, v_rule-zero}
 use Rattle.vex_decode.specs.Fields.{Fields, PrefixForm, prefix_bytes, IsPrefix}
-use Rattle.vex_decode.specs.Spelling.{Syntax, imm_bytes, bytes_of, FitsRule, FitsGroup, FitsImm, IsSyntax}
+use Rattle.vex_decode.specs.Spelling.{Syntax, imm_bytes, bytes_of, FitsRule, FitsGroup, IsSyntax}
 use Rattle.vex_decode.specs.Walk.{passes, Operands, read_prefix, key_of, entry_of, found, walk_form, row_of, syntax_of, walk}
 use Rattle.vex_decode.proofs.Prefix.{ReadsPrefix, read_prefix-again, read_prefix-written}
 use Rattle.vex_decode.proofs.Form.{ReadsForm, WritesForm, step_then, walk_form-again, walk_form-written}
@@ -44,10 +44,10 @@ pub record Orderly (entry : Entry) : Type 0 where
 
 pub orderly_checks : (entry : Entry) → Orderly entry
 orderly_checks entry =
-  let all = both-parts (list_all is_prefix_check (steps entry.form).first && list_all is_modrm_check (steps entry.form).second && list_all is_late_check (steps entry.form).third) _ (orderly entry.form) in
-  let two = both-parts (list_all is_prefix_check (steps entry.form).first && list_all is_modrm_check (steps entry.form).second) (list_all is_late_check (steps entry.form).third) all.0 in
-  let one = both-parts (list_all is_prefix_check (steps entry.form).first) (list_all is_modrm_check (steps entry.form).second) two.0 in
-  record { first = one.0; second = one.1; third = two.1 }
+    let all = both-parts (list_all is_prefix_check (steps entry.form).first && list_all is_modrm_check (steps entry.form).second && list_all is_late_check (steps entry.form).third) _ (orderly entry.form) in
+    let two = both-parts (list_all is_prefix_check (steps entry.form).first && list_all is_modrm_check (steps entry.form).second) (list_all is_late_check (steps entry.form).third) all.0 in
+    let one = both-parts (list_all is_prefix_check (steps entry.form).first) (list_all is_modrm_check (steps entry.form).second) two.0 in
+    record { first = one.0; second = one.1; third = two.1 }
 
 -- an element that passes a test makes some element pass it
 any-among : {A : Type 0} (p : A → Bool) (x : A) (xs : List A) → Among x xs → p x ≡ true → list_any p xs ≡ true
@@ -100,9 +100,9 @@ module _ (row : Row) (s : Syntax) (chosen : Chosen row) (is : IsSyntax row s) wh
 -- where a form has groups, a row has one, which is the reg field
 group_by : (form : _) (l reg : ℕ) (group : Option ℕ) → has_groups form ≡ true → Among group (group_choices form l) → group_allowed form l group ≡ true → FitsGroup group reg → is_group (groups form l) reg ≡ true
 group_by form l reg None has m allowed fits =
-  let e : group_choices form l ≡ map (λ g. Some g.0) (groups form l) = rw has refl in
-  let from = from-map (λ g. Some g.0) None (groups form l) (subst (Among None) e m) in
-  cc (from.2)
+    let e : group_choices form l ≡ map (λ g. Some g.0) (groups form l) = rw has refl in
+    let from = from-map (λ g. Some g.0) None (groups form l) (subst (Among None) e m) in
+    cc (from.2)
 group_by form l reg (Some g) has m allowed fits = subst (λ n. is_group (groups form l) n ≡ true) (sym fits) allowed
 
 has_groups-checked : (row : Row) → Among Group (steps row.entry.form).second → has_groups row.entry.form ≡ true
@@ -120,8 +120,8 @@ module _ (row : Row) (s : Syntax) (chosen : Chosen row) (is : IsSyntax row s) wh
   passes_second Reg m = subst (λ k. is_register k ≡ true) (sym is.kind) (chosen_second row s chosen is Reg m)
   passes_second Mem m = subst (λ k. is_memory k ≡ true) (sym is.kind) (chosen_second row s chosen is Mem m)
   passes_second Group m =
-    let has : has_groups row.entry.form ≡ true = has_groups-checked row m in
-    subst (λ l. is_group (groups row.entry.form l) s.reg ≡ true) (sym is.l)
+      let has : has_groups row.entry.form ≡ true = has_groups-checked row m in
+      subst (λ l. is_group (groups row.entry.form l) s.reg ≡ true) (sym is.l)
       (group_by row.entry.form row.l s.reg row.group has chosen.group (chosen_second row s chosen is Group m) is.group)
   passes_second VifMem m = cc (from-list_all is_modrm_check VifMem _ (orderly_checks row.entry).second m)
 
@@ -164,9 +164,9 @@ pp_number-same _ _ e = absurd (omega arith)
 pub entry_of-again : (entry : Entry) (f : Fields) → Among entry table → f.map ≡ entry.map → f.pp ≡ entry.pp → allows entry.w f.w ≡ true → allows entry.l (f.l == 1) ≡ true → entry_of (key_of f entry.byte) ≡ Some entry
 unfolding entry_of
 entry_of-again entry f m map pp w l =
-  let key = key_of f entry.byte in
-  let has : has_key entry key ≡ true = to-has_key entry key (record { byte = refl; map = ap map_number (sym map); pp = ap pp_number (sym pp); w = w; l = l }) in
-  find-only (λ e. has_key e key) table entry m has (λ other n h. one_entry other entry key n m h has)
+    let key = key_of f entry.byte in
+    let has : has_key entry key ≡ true = to-has_key entry key (record { byte = refl; map = ap map_number (sym map); pp = ap pp_number (sym pp); w = w; l = l }) in
+    find-only (λ e. has_key e key) table entry m has (λ other n h. one_entry other entry key n m h has)
 
 -- what is found has the key
 pub record Finds (entry : Entry) (f : Fields) (byte : ℕ) : Type 0 where
@@ -180,9 +180,9 @@ pub record Finds (entry : Entry) (f : Fields) (byte : ℕ) : Type 0 where
 pub entry_of-finds : (f : Fields) (byte : ℕ) (entry : Entry) → entry_of (key_of f byte) ≡ Some entry → Finds entry f byte
 unfolding entry_of
 entry_of-finds f byte entry e =
-  let got = found-find (λ entry. has_key entry (key_of f byte)) table entry e in
-  let has = from-has_key entry (key_of f byte) got.1 in
-  record { listed = got.0; byte_is = has.byte; map = map_number-same _ _ (sym has.map); pp = pp_number-same _ _ (sym has.pp); w = has.w; l = has.l }
+    let got = found-find (λ entry. has_key entry (key_of f byte)) table entry e in
+    let has = from-has_key entry (key_of f byte) got.1 in
+    record { listed = got.0; byte_is = has.byte; map = map_number-same _ _ (sym has.map); pp = pp_number-same _ _ (sym has.pp); w = has.w; l = has.l }
 
 -- the group of a row is the reg field that was written
 group-same : (has : Bool) (gs : List (ℕ × Opcode)) (group : Option ℕ) (reg : ℕ) → Among group (if has then map (λ g. Some g.0) gs else None ∷ []) → FitsGroup group reg → (if has then Some reg else None) ≡ group
@@ -197,25 +197,25 @@ group_of_row row reg chosen fits = group-same (has_groups row.entry.form) (group
 -- the bytes of a spelling with what follows them
 spelling_then : (row : Row) (s : Syntax) (rest : List ℕ) → bytes_of row s ++ rest ≡ prefix_bytes s.form s.fields ++ row.entry.byte ∷ (place_bytes s.reg s.place ++ (imm_bytes (has_imm row) s.imm ++ rest))
 spelling_then row s rest =
-  append_assoc (prefix_bytes s.form s.fields) (row.entry.byte ∷ (place_bytes s.reg s.place ++ imm_bytes (has_imm row) s.imm)) rest
-  ∙ ap (λ tail. prefix_bytes s.form s.fields ++ row.entry.byte ∷ tail) (append_assoc (place_bytes s.reg s.place) (imm_bytes (has_imm row) s.imm) rest)
+    append_assoc (prefix_bytes s.form s.fields) (row.entry.byte ∷ (place_bytes s.reg s.place ++ imm_bytes (has_imm row) s.imm)) rest
+    ∙ ap (λ tail. prefix_bytes s.form s.fields ++ row.entry.byte ∷ tail) (append_assoc (place_bytes s.reg s.place) (imm_bytes (has_imm row) s.imm) rest)
 
 -- what a row writes is read again, whatever follows it
 pub walk-again : (row : Row) (s : Syntax) (rest : List ℕ) → IsRow row → IsSyntax row s → walk (bytes_of row s ++ rest) ≡ Ok ((row, s), rest)
 unfolding walk has_imm
 walk-again row s rest is_row is =
-  let chosen = chosen-row row is_row in
-  let after : List ℕ = place_bytes s.reg s.place ++ (imm_bytes (has_imm row) s.imm ++ rest) in
-  let operands : Operands = record { reg = s.reg; place = s.place; imm = s.imm } in
-  let w : allows row.entry.w s.fields.w ≡ true = subst (λ w. allows row.entry.w w ≡ true) (sym is.w) chosen.w in
-  let l : allows row.entry.l (s.fields.l == 1) ≡ true = subst (λ l. allows row.entry.l (l == 1) ≡ true) (sym is.l) chosen.l in
-  let found_is = entry_of-again row.entry s.fields chosen.listed is.map is.pp w l in
-  let group = group_of_row row s.reg chosen is.group in
-  ap walk (spelling_then row s rest)
-  ∙ step_then (read_prefix (prefix_bytes s.form s.fields ++ row.entry.byte ∷ after)) _ ((s.form, s.fields), row.entry.byte ∷ after) _ (read_prefix-again s.form s.fields (row.entry.byte ∷ after) is.prefix)
+    let chosen = chosen-row row is_row in
+    let after : List ℕ = place_bytes s.reg s.place ++ (imm_bytes (has_imm row) s.imm ++ rest) in
+    let operands : Operands = record { reg = s.reg; place = s.place; imm = s.imm } in
+    let w : allows row.entry.w s.fields.w ≡ true = subst (λ w. allows row.entry.w w ≡ true) (sym is.w) chosen.w in
+    let l : allows row.entry.l (s.fields.l == 1) ≡ true = subst (λ l. allows row.entry.l (l == 1) ≡ true) (sym is.l) chosen.l in
+    let found_is = entry_of-again row.entry s.fields chosen.listed is.map is.pp w l in
+    let group = group_of_row row s.reg chosen is.group in
+    ap walk (spelling_then row s rest)
+    ∙ step_then (read_prefix (prefix_bytes s.form s.fields ++ row.entry.byte ∷ after)) _ ((s.form, s.fields), row.entry.byte ∷ after) _ (read_prefix-again s.form s.fields (row.entry.byte ∷ after) is.prefix)
     (step_then (found (entry_of (key_of s.fields row.entry.byte)) after) _ (row.entry, after) _ (ap (λ o. found o after) found_is)
-      (step_then (walk_form row.entry s.fields after) _ (operands, rest) _ (walk_form-again row.entry s.fields operands rest (writes_form row s chosen is))
-        (λ i. Ok ((record { entry = row.entry; w = is.w i; l = is.l i; kind = is.kind i; group = group i }, s), rest))))
+    (step_then (walk_form row.entry s.fields after) _ (operands, rest) _ (walk_form-again row.entry s.fields operands rest (writes_form row s chosen is))
+    (λ i. Ok ((record { entry = row.entry; w = is.w i; l = is.l i; kind = is.kind i; group = group i }, s), rest))))
 
 -- what a decode has read, and how it was written
 pub record Walked (bytes : List ℕ) (row : Row) (s : Syntax) (rest : List ℕ) : Type 0 where
@@ -285,8 +285,7 @@ fits_rule Zero v h = h refl
 fits_rule Free v h = tt
 
 module _ (entry : Entry) (form : PrefixForm) (f : Fields) (byte : ℕ) (bytes : List ℕ) (read : Operands) (rest : List ℕ)
-  (is_prefix : IsPrefix form f) (finds : Finds entry f byte) (reads : ReadsForm entry f bytes read rest) where
-
+    (is_prefix : IsPrefix form f) (finds : Finds entry f byte) (reads : ReadsForm entry f bytes read rest) where
   group_checked : has_groups entry.form ≡ true → is_group (groups entry.form f.l) read.reg ≡ true
   unfolding has_groups
   group_checked h = group_passed entry f (kind_of read.place) read.reg (steps entry.form).second h reads.second
@@ -317,27 +316,38 @@ module _ (entry : Entry) (form : PrefixForm) (f : Fields) (byte : ℕ) (bytes : 
 
   choice : (c : Check) → Among c (checks_of entry) → permits_choice (row_of entry f read) c ≡ true
   choice c m = elim (among-append c ((steps entry.form).first ++ (steps entry.form).second) (steps entry.form).third m) [
-      inl k ↦ elim (among-append c (steps entry.form).first (steps entry.form).second k) [ inl n ↦ choice_first c n | inr n ↦ choice_second c n ]
+    | inl k ↦ elim (among-append c (steps entry.form).first (steps entry.form).second k) [ inl n ↦ choice_first c n | inr n ↦ choice_second c n ]
     | inr k ↦ choice_third c k
-    ]
+  ]
 
   chosen_read : Chosen (row_of entry f read)
   chosen_read = record {
-    listed = finds.listed; w = finds.w; l = finds.l; one_bit = is_prefix.l; kind = reads.kind;
+    listed = finds.listed;
+    w = finds.w;
+    l = finds.l;
+    one_bit = is_prefix.l;
+    kind = reads.kind;
     group = group_read (has_groups entry.form) (groups entry.form f.l) read.reg group_checked;
     checks = list_all-each _ _ choice;
   }
 
   v_demanded : demanded (row_of entry f read) ≡ true → f.v ≡ 0
   v_demanded h = elim (either_true (list_any (demands_v (kind_of read.place)) (steps entry.form).first) (list_any (demands_v (kind_of read.place)) (steps entry.form).third) h) [
-      inl k ↦ v_passed_first entry f (kind_of read.place) (steps entry.form).first (orderly_checks entry).first k reads.first
+    | inl k ↦ v_passed_first entry f (kind_of read.place) (steps entry.form).first (orderly_checks entry).first k reads.first
     | inr k ↦ v_passed_third entry f (kind_of read.place) read.reg (steps entry.form).third (orderly_checks entry).third k reads.third
-    ]
+  ]
 
   syntax_read : IsSyntax (row_of entry f read) (syntax_of form f read)
   unfolding has_imm
   syntax_read = record {
-    prefix = is_prefix; map = finds.map; pp = finds.pp; w = refl; l = refl; reg = reads.reg; place = reads.place; kind = refl;
+    prefix = is_prefix;
+    map = finds.map;
+    pp = finds.pp;
+    w = refl;
+    l = refl;
+    reg = reads.reg;
+    place = reads.place;
+    kind = refl;
     group = fits_group (has_groups entry.form) read.reg;
     v = fits_rule (v_rule (row_of entry f read)) f.v (λ zero. v_demanded (v_rule-zero (row_of entry f read) zero).1);
     imm = reads.imm;
@@ -347,17 +357,17 @@ module _ (entry : Entry) (form : PrefixForm) (f : Fields) (byte : ℕ) (bytes : 
 pub walk-written : (bytes : List ℕ) → IsBytes bytes → Answers (λ read rest. Walked bytes read.0 read.1 rest) (walk bytes)
 unfolding walk has_imm
 walk-written bytes is =
-  Answers-bind (λ v r. ReadsPrefix bytes (v, r)) _ (read_prefix bytes) _ (λ v r e. read_prefix-written bytes (v, r) is e) (λ prefix r1 reads_prefix.
+    Answers-bind (λ v r. ReadsPrefix bytes (v, r)) _ (read_prefix bytes) _ (λ v r e. read_prefix-written bytes (v, r) is e) (λ prefix r1 reads_prefix.
     Answers-bind (ReadsByte r1) _ (take_byte r1) _ (take_byte-written r1 reads_prefix.left) (λ byte r2 reads_byte.
-      Answers-bind (λ entry r. Finds entry prefix.1 byte × (r ≡ r2)) _ (found (entry_of (key_of prefix.1 byte)) r2) _ (found-finds prefix.1 byte r2) (λ entry r3 finds.
-        Answers-bind (ReadsForm entry prefix.1 r3) _ (walk_form entry prefix.1 r3) _ (walk_form-written entry prefix.1 r3 (subst IsBytes (sym finds.1) reads_byte.left)) (λ operands r4 reads.
-          let row : Row = row_of entry prefix.1 operands in
-          let s : Syntax = syntax_of prefix.0 prefix.1 operands in
-          Answers-ok (λ read rest. Walked bytes read.0 read.1 rest) (row, s) r4 (record {
-            is_row = row-chosen row (chosen_read entry prefix.0 prefix.1 byte r3 operands r4 reads_prefix.is_prefix finds.0 reads);
-            is = syntax_read entry prefix.0 prefix.1 byte r3 operands r4 reads_prefix.is_prefix finds.0 reads;
-            written = reads_prefix.written
-              ∙ ap (λ tail. prefix_bytes prefix.0 prefix.1 ++ tail) (reads_byte.written ∙ ap₂ ◌∷◌ (sym finds.0.byte_is) (sym finds.1 ∙ reads.written))
-              ∙ sym (spelling_then row s r4);
-            left = reads.left;
-          })))))
+    Answers-bind (λ entry r. Finds entry prefix.1 byte × (r ≡ r2)) _ (found (entry_of (key_of prefix.1 byte)) r2) _ (found-finds prefix.1 byte r2) (λ entry r3 finds.
+    Answers-bind (ReadsForm entry prefix.1 r3) _ (walk_form entry prefix.1 r3) _ (walk_form-written entry prefix.1 r3 (subst IsBytes (sym finds.1) reads_byte.left)) (λ operands r4 reads.
+    let row : Row = row_of entry prefix.1 operands in
+    let s : Syntax = syntax_of prefix.0 prefix.1 operands in
+    Answers-ok (λ read rest. Walked bytes read.0 read.1 rest) (row, s) r4 (record {
+      is_row = row-chosen row (chosen_read entry prefix.0 prefix.1 byte r3 operands r4 reads_prefix.is_prefix finds.0 reads);
+      is = syntax_read entry prefix.0 prefix.1 byte r3 operands r4 reads_prefix.is_prefix finds.0 reads;
+      written = reads_prefix.written
+          ∙ ap (λ tail. prefix_bytes prefix.0 prefix.1 ++ tail) (reads_byte.written ∙ ap₂ ◌∷◌ (sym finds.0.byte_is) (sym finds.1 ∙ reads.written))
+          ∙ sym (spelling_then row s r4);
+      left = reads.left;
+    })))))

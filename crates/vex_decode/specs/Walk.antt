@@ -115,7 +115,7 @@ refusal _ = InvalidOperand
 abbrev pub check_all : Entry → Fields → Kind → ℕ → List Check → List ℕ → Reading (Unit {0})
 check_all entry f kind reg [] bytes = Ok (tt, bytes)
 check_all entry f kind reg (c ∷ cs) bytes =
-  if passes entry f kind reg c then check_all entry f kind reg cs bytes else Err (refusal c, bytes)
+    if passes entry f kind reg c then check_all entry f kind reg cs bytes else Err (refusal c, bytes)
 
 -- the kind of operand that the field mod says
 abbrev pub kind_of_mod : ℕ → Kind

@@ -1,2 +1,6 @@
 //! What a VEX instruction is, byte by byte, and where a string of bytes fails to be one.
 #![tactic(auto)]
+
+mod laws;
+
+pub use laws::{blocked_or_begun, more_settings, one_meaning, prefix_free};

@@ -10,7 +10,7 @@ use Rattle.std.specs.List.{list_any}
 use Rattle.vex_rows.proofs.Lists.{both-parts}
 use Rattle.vex_forms.specs.declared.slot.VvvvRule.TheVariants.{Named, Zero, Free}
 use Rattle.vex_forms.specs.Slots.{slots, slots_of, names_g, names_v, demands_v, v_rule}
-use Rattle.vex_forms.specs.Tests.{is_sound, immediates}
+use Rattle.vex_forms.specs.Tests.{is_sound, is_distinct, immediates}
 
 -- by the kind of a row, for the forms whose slots depend on it
 by_kind : (test : Kind → Bool) → test WithoutModRM ≡ true → test InRegister ≡ true → test InMemory ≡ true → (kind : Kind) → test kind ≡ true
@@ -27,6 +27,14 @@ sound VMOVSS_11 row = by_kind (λ kind. is_sound VMOVSS_11 (row_at row.entry row
 sound VMOVSD_11 row = by_kind (λ kind. is_sound VMOVSD_11 (row_at row.entry row.w row.l kind row.group)) refl refl refl row.kind
 sound _ row = refl
 
+-- no form names a field twice
+pub distinct : (form : Form) (row : Row) → is_distinct (slots_of form row) ≡ true
+distinct Nothing row = refl
+distinct VMOVSS_10 row = by_kind (λ kind. is_distinct (slots_of VMOVSS_10 (row_at row.entry row.w row.l kind row.group))) refl refl refl row.kind
+distinct VMOVSD_10 row = by_kind (λ kind. is_distinct (slots_of VMOVSD_10 (row_at row.entry row.w row.l kind row.group))) refl refl refl row.kind
+distinct VMOVSS_11 row = by_kind (λ kind. is_distinct (slots_of VMOVSS_11 (row_at row.entry row.w row.l kind row.group))) refl refl refl row.kind
+distinct VMOVSD_11 row = by_kind (λ kind. is_distinct (slots_of VMOVSD_11 (row_at row.entry row.w row.l kind row.group))) refl refl refl row.kind
+distinct _ row = refl
 
 -- vvvv isn't both named by a slot and demanded to be 0
 abbrev pub named : Row → Bool
@@ -43,9 +51,9 @@ pub record Sound (row : Row) : Type 0 where
 
 pub sound_row : (row : Row) → Sound row
 sound_row row =
-  let all = both-parts (nat_le (immediates (slots_of row.entry.form row)) (if (steps row.entry.form).imm then 1 else 0) && not (named row && demanded row)) ((steps row.entry.form).modrm || not (list_any names_g (slots_of row.entry.form row))) (sound row.entry.form row) in
-  let two = both-parts (nat_le (immediates (slots_of row.entry.form row)) (if (steps row.entry.form).imm then 1 else 0)) (not (named row && demanded row)) all.0 in
-  record { immediates = two.0; v = two.1; alone = all.1 }
+    let all = both-parts (nat_le (immediates (slots_of row.entry.form row)) (if (steps row.entry.form).imm then 1 else 0) && not (named row && demanded row)) ((steps row.entry.form).modrm || not (list_any names_g (slots_of row.entry.form row))) (sound row.entry.form row) in
+    let two = both-parts (nat_le (immediates (slots_of row.entry.form row)) (if (steps row.entry.form).imm then 1 else 0)) (not (named row && demanded row)) all.0 in
+    record { immediates = two.0; v = two.1; alone = all.1 }
 
 -- what a row asks of vvvv, by what its slots name and its steps demand
 rule_demanded : (named demanded : Bool) → not (named && demanded) ≡ true → demanded ≡ true → (if named then Named else if demanded then Zero else Free) ≡ Zero

@@ -1,11 +1,11 @@
--- What the slots of a row must be for the laws of spellings: a test that is computed.
+-- What the slots of a row must be for the laws of spellings: tests that are computed.
 use Rattle.std.specs.Prelude.{ℕ, ◌+◌, Bool, true, false, not, ◌&&◌, ◌||◌, nat_le, List, [], ◌∷◌, if◌then◌else◌}
-use Rattle.std.specs.List.{list_any}
+use Rattle.std.specs.List.{list_any, count_by}
 use Rattle.vex_rows.specs.declared.form.Form.{Form}
 use Rattle.vex_rows.specs.Steps.{steps}
 use Rattle.vex_rows.specs.Row.{Row}
 use Rattle.vex_forms.specs.declared.slot.Slot.{Slot}
-use Rattle.vex_forms.specs.Slots.{slots_of, names_g, names_v, names_imm, demands_v}
+use Rattle.vex_forms.specs.Slots.{slots_of, names_g, names_v, names_e, names_imm, demands_v}
 
 -- how many slots read the immediate byte
 abbrev pub immediates : List Slot → ℕ
@@ -16,7 +16,11 @@ immediates (slot ∷ slots) = (if names_imm slot then 1 else 0) + immediates slo
 -- isn't demanded to be 0 where a slot names it; without ModRM no slot names the field reg
 abbrev pub is_sound : Form → Row → Bool
 is_sound form row =
-  nat_le (immediates (slots_of form row)) (if (steps form).imm then 1 else 0)
-  && not (list_any names_v (slots_of form row)
+    nat_le (immediates (slots_of form row)) (if (steps form).imm then 1 else 0)
+    && not (list_any names_v (slots_of form row)
     && (list_any (demands_v row.kind) (steps form).first || list_any (demands_v row.kind) (steps form).third))
-  && ((steps form).modrm || not (list_any names_g (slots_of form row)))
+    && ((steps form).modrm || not (list_any names_g (slots_of form row)))
+
+-- whether no field is named twice: at most one slot each names reg, vvvv and the operand E
+abbrev pub is_distinct : List Slot → Bool
+is_distinct slots = nat_le (count_by names_g slots) 1 && nat_le (count_by names_v slots) 1 && nat_le (count_by names_e slots) 1

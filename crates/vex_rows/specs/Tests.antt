@@ -20,12 +20,16 @@ agree _ _ = true
 -- whether two entries have a key in common
 abbrev pub share_key : Entry → Entry → Bool
 share_key a b =
-  a.byte == b.byte && map_number a.map == map_number b.map && pp_number a.pp == pp_number b.pp && agree a.w b.w && agree a.l b.l
+    a.byte == b.byte && map_number a.map == map_number b.map && pp_number a.pp == pp_number b.pp && agree a.w b.w && agree a.l b.l
 
 -- the pairs of entries that have a key in common
 abbrev pub clashes : List Entry → List (Entry × Entry)
 clashes [] = []
 clashes (entry ∷ entries) = map (λ other. (entry, other)) (filter (share_key entry) entries) ++ clashes entries
+
+-- the entries whose opcode byte is above 255
+abbrev pub large_bytes : List Entry → List Entry
+large_bytes entries = filter (λ entry. not (nat_lt entry.byte 256)) entries
 
 -- whether a check may stand before ModRM: it looks at prefix fields alone
 abbrev pub is_prefix_check : Check → Bool
@@ -59,6 +63,6 @@ is_none _ = false
 -- register
 abbrev pub is_orderly : FormSteps → Bool
 is_orderly form =
-  list_all is_prefix_check form.first && list_all is_modrm_check form.second && list_all is_late_check form.third
-  && (if form.modrm then form.address || list_any is_register_check form.second
-      else is_none form.second && is_none form.third && not form.address)
+    list_all is_prefix_check form.first && list_all is_modrm_check form.second && list_all is_late_check form.third
+    && (if form.modrm then form.address || list_any is_register_check form.second
+    else is_none form.second && is_none form.third && not form.address)

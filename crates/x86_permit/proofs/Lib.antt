@@ -1,4 +1,4 @@
 mod Bits
 mod ReadBits
 mod VexConditions
-mod Laws
+pub mod Laws

@@ -1,0 +1,45 @@
+-- Where bytes are blocked, computed at examples: VMOVAPS needs the bit of avx, which is asked for last.
+use Rattle.std.specs.Prelude.{◌≡◌, refl, Bool, true, false, List, [], ◌∷◌, Some, None, replicate, slice_set}
+use Rattle.x86_operand.specs.declared.error.DecodeError.TheVariants.{ExhaustedInput, InvalidOpcode, InvalidOperand, Outside}
+use Rattle.x86_opcode.specs.Condition.{opcode_condition}
+use Rattle.x86_permit.specs.Settings.{avx}
+use Rattle.x86_permit.specs.Permission.{permits}
+use Rattle.vex_rows.specs.Groups.{groups}
+use Rattle.vex_rows.specs.Rules.{has_key}
+use Rattle.vex_rows.specs.Steps.{steps}
+use Rattle.vex_rows.specs.Table.{table}
+use Rattle.vex_rows.specs.Row.{has_groups, opcode_of}
+use Rattle.vex_decode.specs.Walk.{entry_of, walk_form, walk}
+use Rattle.vex_decode.specs.Blocked.{blocked}
+
+abbrev no_bits : List Bool
+no_bits = replicate 128 false
+
+abbrev avx_bit : List Bool
+avx_bit = slice_set no_bits avx true
+
+permitted : blocked avx_bit (0xC4 ∷ 0xC1 ∷ 0x78 ∷ 0x28 ∷ 0xC0 ∷ []) ≡ None
+unfolding walk walk_form entry_of has_key table steps groups has_groups opcode_of permits opcode_condition
+permitted = refl
+
+refused : blocked no_bits (0xC4 ∷ 0xC1 ∷ 0x78 ∷ 0x28 ∷ 0xC0 ∷ []) ≡ Some (InvalidOpcode, 5)
+unfolding walk walk_form entry_of has_key table steps groups has_groups opcode_of permits opcode_condition
+refused = refl
+
+-- what follows a spelling plays no part
+followed : blocked avx_bit (0xC5 ∷ 0xF8 ∷ 0x28 ∷ 0xC0 ∷ 0xFF ∷ 0xFF ∷ []) ≡ None
+unfolding walk walk_form entry_of has_key table steps groups has_groups opcode_of permits opcode_condition
+followed = refl
+
+-- every other step comes before the settings
+cut : blocked no_bits (0xC5 ∷ 0xF8 ∷ []) ≡ Some (ExhaustedInput, 2)
+unfolding walk
+cut = refl
+
+vvvv : blocked no_bits (0xC5 ∷ 0xE8 ∷ 0x28 ∷ 0xC0 ∷ []) ≡ Some (InvalidOperand, 3)
+unfolding walk walk_form entry_of has_key table steps groups
+vvvv = refl
+
+first_byte : blocked no_bits (0x33 ∷ 0xC0 ∷ []) ≡ Some (Outside, 1)
+unfolding walk
+first_byte = refl

@@ -1,0 +1,69 @@
+-- The laws of spellings.
+use Rattle.std.specs.Prelude.{◌≡◌, ◌≢◌, ◌↔◌, ℕ, ◌≤◌, Bool, false, List, ◌++◌, length, take, Some, None, IsTrue}
+use Rattle.x86_operand.specs.declared.error.DecodeError.TheVariants.{ExhaustedInput}
+use Rattle.x86_operand.specs.Meaning.{Meaning}
+use Rattle.x86_permit.specs.Permission.{permits}
+use Rattle.x86_permit.specs.Settings.{is_set}
+use Rattle.x86_address.specs.Bytes.{IsBytes, Begins}
+use Rattle.vex_decode.specs.Spelling.{Spells}
+use Rattle.vex_decode.specs.Blocked.{blocked}
+
+-- of two spellings of which one begins the other, the one is the other
+abbrev pub PrefixFree : Type 0
+PrefixFree = (a b : List ℕ) (m n : Meaning) → Spells a m → Spells b n → Begins a b → a ≡ b
+
+-- a spelling has at least 3 and at most 11 bytes
+abbrev pub SpellingLength : Type 0
+SpellingLength = (bytes : List ℕ) (m : Meaning) → Spells bytes m → (3 ≤ length bytes) × (length bytes ≤ 11)
+
+-- each number of a spelling is a byte
+abbrev pub SpellingBytes : Type 0
+SpellingBytes = (bytes : List ℕ) (m : Meaning) → Spells bytes m → IsBytes bytes
+
+-- bytes spell at most one meaning
+abbrev pub OneMeaning : Type 0
+OneMeaning = (bytes : List ℕ) (m n : Meaning) → Spells bytes m → Spells bytes n → m ≡ n
+
+-- the bytes begin with a spelling of a meaning whose opcode the settings permit
+pub record BeginsPermitted (settings : List Bool) (bytes : List ℕ) : Type 0 where
+  pub front : List ℕ
+  pub begins : Begins front bytes
+  pub m : Meaning
+  pub spells : Spells front m
+  pub permitted : IsTrue (permits settings false m.opcode)
+
+-- bytes are not blocked exactly where they begin with a permitted spelling
+abbrev pub BlockedOrBegun : Type 0
+BlockedOrBegun = (settings : List Bool) (bytes : List ℕ) → IsBytes bytes → blocked settings bytes ≡ None ↔ BeginsPermitted settings bytes
+
+-- more bytes change nothing, other than where the bytes were exhausted
+abbrev pub MoreBytes : Type 0
+MoreBytes =
+    (settings : List Bool) (bytes more : List ℕ) → ((n : ℕ) → blocked settings bytes ≢ Some (ExhaustedInput, n))
+    → blocked settings (bytes ++ more) ≡ blocked settings bytes
+
+-- where the bytes are exhausted, all of them were taken
+abbrev pub ExhaustedAtEnd : Type 0
+ExhaustedAtEnd = (settings : List Bool) (bytes : List ℕ) (n : ℕ) → blocked settings bytes ≡ Some (ExhaustedInput, n) → n ≡ length bytes
+
+-- each bit that is set in the settings is set in these
+abbrev pub AreWithin : List Bool → List Bool → Type 0
+AreWithin settings more = (i : ℕ) → IsTrue (is_set settings i) → IsTrue (is_set more i)
+
+-- a decode under the settings answers a meaning and a length: no step fails, and so many bytes spell the meaning
+pub record Decodes (settings : List Bool) (bytes : List ℕ) (m : Meaning) (n : ℕ) : Type 0 where
+  pub not_blocked : blocked settings bytes ≡ None
+  pub within : n ≤ length bytes
+  pub spells : Spells (take n bytes) m
+
+-- further bits never turn an answer into an error
+abbrev pub MoreSettings : Type 0
+MoreSettings =
+    (settings more : List Bool) → AreWithin settings more
+    → (bytes : List ℕ) → IsBytes bytes → blocked settings bytes ≡ None → blocked more bytes ≡ None
+
+-- the meaning and the length that a decode answers don't depend on the settings
+abbrev pub SameAnswer : Type 0
+SameAnswer =
+    (settings other : List Bool) (bytes : List ℕ) (m m' : Meaning) (n n' : ℕ)
+    → Decodes settings bytes m n → Decodes other bytes m' n' → (m ≡ m') × (n ≡ n')

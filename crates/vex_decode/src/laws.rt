@@ -1,0 +1,29 @@
+//! What holds of all spellings, each law as the contract of a function that does nothing.
+
+ghost use Rattle.vex_decode.specs.Laws.{PrefixFree, SpellingLength, SpellingBytes, OneMeaning, BlockedOrBegun, MoreBytes, ExhaustedAtEnd, MoreSettings, SameAnswer};
+
+/// If one spelling begins another, they are equal; every spelling has 3 to 11 bytes.
+pub fn prefix_free()
+    ensures equal { PrefixFree }
+    ensures length { SpellingLength }
+    ensures bytes { SpellingBytes }
+{}
+
+/// A byte string spells at most one meaning.
+pub fn one_meaning()
+    ensures { OneMeaning }
+{}
+
+/// A decode finds no failing step exactly where some beginning of the bytes spells a meaning whose opcode is
+/// permitted; and bytes that are added at the end change no answer other than that the input is exhausted.
+pub fn blocked_or_begun()
+    ensures begun { BlockedOrBegun }
+    ensures more { MoreBytes }
+    ensures exhausted { ExhaustedAtEnd }
+{}
+
+/// Setting further bits never turns an answer into an error, and never changes the meaning.
+pub fn more_settings()
+    ensures kept { MoreSettings }
+    ensures same { SameAnswer }
+{}
