@@ -1,0 +1,34 @@
+-- The line buffer as a machine over bytes: it keeps the bytes of the unfinished line, and none of them once
+-- the line is too long.
+use Rattle.std.specs.Prelude.{ℕ, ◌==◌, nat_lt, List, [], ◌∷◌, ◌++◌, length, codes, Option, Some, None, if◌then◌else◌}
+use Rattle.vex_tool.specs.ErrorLine.{error_line}
+
+-- what is kept of the line, one byte on
+unfoldable pub pushed : Option (List ℕ) → ℕ → Option (List ℕ)
+pushed None b = None
+pushed (Some line) b = if nat_lt (length line) 8192 then Some (line ++ b ∷ []) else None
+
+-- what is kept of the unfinished line after more bytes
+unfoldable pub line_after : Option (List ℕ) → List ℕ → Option (List ℕ)
+line_after kept [] = kept
+line_after kept (b ∷ bs) = if b == 10 then line_after (Some []) bs else line_after (pushed kept b) bs
+
+-- what a line that is too long gives
+abbrev pub long_line : List ℕ
+long_line = error_line (codes "LongLine")
+
+-- what the kept line gives, where a line gives f
+abbrev pub kept_report : (List ℕ → List ℕ) → Option (List ℕ) → List ℕ
+kept_report f None = long_line
+kept_report f (Some line) = f line
+
+-- what the lines give that end in more bytes
+unfoldable pub ended : (List ℕ → List ℕ) → Option (List ℕ) → List ℕ → List ℕ
+ended f kept [] = []
+ended f kept (b ∷ bs) = if b == 10 then kept_report f kept ++ ended f (Some []) bs else ended f (pushed kept b) bs
+
+-- what the last line gives, which has no end: nothing where it is empty
+unfoldable pub last : (List ℕ → List ℕ) → Option (List ℕ) → List ℕ
+last f None = long_line
+last f (Some []) = []
+last f (Some (b ∷ bs)) = f (b ∷ bs)
