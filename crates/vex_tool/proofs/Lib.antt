@@ -1,2 +1,4 @@
 pub mod EndsLemmas
 pub mod ReportLemmas
+pub mod LineMachineLemmas
+pub mod FeedLemmas

@@ -3,7 +3,7 @@
 ghost use Rattle.std.specs.Prelude.{◌≡◌, ◌≤◌, [], ◌∷◌, length, Some, OnOk, IfSome, IsTrue, ◌↔◌, option_copied};
 ghost use Rattle.vex_tool.specs.Ends.{Writes};
 ghost use Rattle.vex_tool.specs.Report.{report};
-ghost use Rattle.vex_tool.specs.LineMachine.{pushed, line_after, kept_report, ended, last};
+ghost use Rattle.vex_tool.specs.LineMachine.{pushed, stepped, line_after, kept_report, ended_at, ended, last};
 
 use crate::command::Command;
 use crate::ends::{Failed, Sink};
@@ -57,6 +57,13 @@ impl LineBuffer {
         self.is_long = false;
     }
 
+    /// Whether the line has no byte.
+    pub fn is_empty(&self) -> bool
+        ensures { IsTrue result ↔ (self.now ≡ Some []) }
+    {
+        !self.is_long && self.kept.is_empty()
+    }
+
     /// The line, or `None` where it is too long.
     pub fn line(&self) -> Option<&[u8]>
         ensures value { option_copied result ≡ self.now }
@@ -67,4 +74,60 @@ impl LineBuffer {
         }
         Some(self.kept.as_slice())
     }
+}
+
+// Writes the report of the line.
+fn answer<K: Sink>(command: &Command, line: &LineBuffer, sink: &mut K) -> Result<(), Failed>
+    ensures { Writes result (K.text sink.old) (K.text sink.new) (K.faults sink.old) (K.faults sink.new) (kept_report (report command.now) line.now) }
+{
+    match line.line() {
+        Some(bytes) => write_report(command, bytes, sink),
+        None => write_error(LineError::LongLine, sink),
+    }
+}
+
+// Takes a byte of the input: it ends the line, which is then answered, or is kept.
+#[tactic(auto, unfolding(crate::specs::LineMachine::stepped, crate::specs::LineMachine::ended_at))]
+fn take_byte<K: Sink>(
+    command: &Command,
+    line: &mut LineBuffer,
+    byte: u8,
+    sink: &mut K,
+) -> Result<(), Failed>
+    ensures kept { OnOk result (line.new ≡ stepped line.old byte) }
+    ensures written { Writes result (K.text sink.old) (K.text sink.new) (K.faults sink.old) (K.faults sink.new) (ended_at (report command.now) line.old byte) }
+{
+    if byte != LINE_END {
+        line.push(byte);
+        return Ok(());
+    }
+    answer(command, line, sink)?;
+    line.clear();
+    Ok(())
+}
+
+/// Takes a piece of the input: answers each line that it ends, and keeps the rest.
+pub fn feed<K: Sink>(
+    command: &Command,
+    line: &mut LineBuffer,
+    piece: &[u8],
+    sink: &mut K,
+) -> Result<(), Failed>
+    ensures kept { OnOk result (line.new ≡ line_after line.old piece.now) }
+    ensures written { Writes result (K.text sink.old) (K.text sink.new) (K.faults sink.old) (K.faults sink.new) (ended (report command.now) line.old piece.now) }
+{
+    for &byte in piece {
+        take_byte(command, line, byte, sink)?;
+    }
+    Ok(())
+}
+
+/// Answers the line that has no end, unless it is empty.
+pub fn finish<K: Sink>(command: &Command, line: &LineBuffer, sink: &mut K) -> Result<(), Failed>
+    ensures { Writes result (K.text sink.old) (K.text sink.new) (K.faults sink.old) (K.faults sink.new) (last (report command.now) line.now) }
+{
+    if line.is_empty() {
+        return Ok(());
+    }
+    answer(command, line, sink)
 }
