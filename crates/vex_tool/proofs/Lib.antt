@@ -2,3 +2,4 @@ pub mod EndsLemmas
 pub mod ReportLemmas
 pub mod LineMachineLemmas
 pub mod FeedLemmas
+pub mod RunLemmas

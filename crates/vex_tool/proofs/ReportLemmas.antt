@@ -8,8 +8,8 @@ use Rattle.hex.specs.declared.error.FromHexError.{FromHexError}
 use Rattle.vex_tool.specs.declared.command.Command.{Command}
 use Rattle.vex_tool.specs.declared.report.LineError.{LineError}
 use Rattle.vex_tool.specs.declared.report.LineError.TheVariants.{BadHex, LongLine}
-use Rattle.vex_tool.specs.ErrorLine.{error_line}
-use Rattle.vex_tool.specs.Report.{report, code, code_report, digits, or_bad_hex, line_error_name}
+use Rattle.vex_tool.specs.Report.{report, code, code_report, digits, or_bad_hex}
+use Rattle.vex_tool.proofs.LineMachineLemmas.{SameForLong}
 
 -- room for half as many bytes as there are digits is as good as any
 decode_sized-half : (text : List ℕ) → decode_sized text (length text / 2) ≡ decode_of text
@@ -64,7 +64,10 @@ code-refused line text room out answer d h e =
     code-from_decoded line text room out answer h
     ∙ decoded_err (decode_sized text (length room)) answer out d h.decoded e
 
--- a line that is too long
-pub report-long : (c : Command) (line : List ℕ) → ltb 8192 (length line) ≡ true → report c line ≡ error_line (line_error_name LongLine)
+-- all lines that are too long have the same report
+pub SameForLong-report : (c : Command) → SameForLong (report c)
 unfolding report code
-report-long c line long = ap (λ (b : Bool). code_report c (cond b (Err LongLine) (or_bad_hex (decode_of (digits line))))) long
+SameForLong-report c = record { same = λ line long.
+  let above : ltb 8192 (length line) ≡ true = grind (arith, nat_tests) in
+  ap (λ (b : Bool). code_report c (cond b (Err LongLine) (or_bad_hex (decode_of (digits line))))) above
+}

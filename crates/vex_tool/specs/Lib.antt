@@ -8,3 +8,4 @@ pub mod ErrorLine
 pub mod ResultLine
 pub mod Report
 pub mod LineMachine
+pub mod Run

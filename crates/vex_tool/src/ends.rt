@@ -28,7 +28,7 @@ pub trait Source {
         ensures fits { IfOk result (λ n. n ≤ length into.old) }
         ensures takes { IfOk result (λ n. Consumes (left self.old) (left self.new) (take n into.new)) }
         ensures others { IfOk result (λ n. drop n into.new ≡ drop n into.old) }
-        ensures end { result ≡ Ok 0 → IsAtEnd (left self.old) }
+        ensures end { result ≡ Ok 0 → IsAtEnd (left self.new) }
         ensures counts { IfOk result (λ n. given self.new ≡ counted (given self.old) n) }
         ensures quiet { OnOk result (faults self.new ≡ faults self.old) }
 

@@ -15,6 +15,7 @@ use std::marker::Model;
 const LINE_END: u8 = b'\n';
 
 /// The bytes of the unfinished line, as long as these are at most 8,192.
+#[derive(Drop)]
 pub struct LineBuffer {
     kept: ArrayVec<u8, 8192>,
     is_long: bool,

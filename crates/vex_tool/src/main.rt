@@ -3,6 +3,7 @@
 
 mod command;
 mod ends;
+mod input;
 mod line_buffer;
 mod memory_ends;
 mod report;

@@ -64,7 +64,7 @@ impl Source for MemSource<'_> {
         ensures fits { IfOk result (λ n. n ≤ length into.old) }
         ensures takes { IfOk result (λ n. Consumes (Some self.old.left) (Some self.new.left) (take n into.new)) }
         ensures others { IfOk result (λ n. drop n into.new ≡ drop n into.old) }
-        ensures end { result ≡ Ok 0 → IsAtEnd (Some self.old.left) }
+        ensures end { result ≡ Ok 0 → IsAtEnd (Some self.new.left) }
         ensures counts { IfOk result (λ n. self.new.given ≡ counted self.old.given n) }
         ensures quiet { OnOk result (self.new.faults ≡ self.old.faults) }
         ensures cause { OnErr result (RoseOrIsLast self.old.faults self.new.faults) }
