@@ -3,3 +3,4 @@ pub mod ReportLemmas
 pub mod LineMachineLemmas
 pub mod FeedLemmas
 pub mod RunLemmas
+pub mod RunClauses
