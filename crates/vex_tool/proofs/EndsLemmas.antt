@@ -24,7 +24,7 @@ AppendsFront-more old new a b h = record {
   front = h.front;
   back = h.back ++ b;
   split = ap (λ t. t ++ b) h.split ∙ append_assoc h.front h.back b;
-  appended = h.appended
+  appended = h.appended;
 }
 
 pub AppendsFront-then : (old mid new : Option (List ℕ)) (a b : List ℕ) → Appends old mid a → AppendsFront mid new b → AppendsFront old new (a ++ b)
@@ -32,7 +32,7 @@ AppendsFront-then old mid new a b h k = record {
   front = a ++ k.front;
   back = k.back;
   split = ap (λ t. a ++ t) k.split ∙ sym (append_assoc a k.front k.back);
-  appended = Appends-then old mid new a k.front h k.appended
+  appended = Appends-then old mid new a k.front h k.appended;
 }
 
 -- a front of a text that was appended to told bytes

@@ -36,7 +36,7 @@ module _ (f : List ℕ → List ℕ) (first : Option (List ℕ)) (sink : Told) w
   Fed-step front line next now new b fed kept written quiet = record {
     kept = kept ∙ ap (λ k. stepped k b) fed.kept ∙ sym (line_after-append first front (b ∷ []) ∙ line_after-one (line_after first front) b);
     written = rw (ended-more front line b fed.kept) (Appends-then sink.text now.text new.text _ _ fed.written written);
-    quiet = quiet ∙ fed.quiet
+    quiet = quiet ∙ fed.quiet;
   }
 
   -- a write failed at a byte of the piece

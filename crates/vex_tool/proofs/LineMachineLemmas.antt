@@ -106,9 +106,9 @@ pushed-kept_of line b =
     elim (cases_lt (length line) 8192) [
       | inl room ↦ rw (kept_of-short line (omega arith), kept_of-short (line ++ b ∷ []) (omega arith)) (pushed-room line b room)
       | inr full ↦ elim (cases_lt 8192 (length line)) [
-          | inl long ↦ rw (kept_of-long line long, kept_of-long (line ++ b ∷ []) (omega arith)) (pushed-none b)
-          | inr short ↦ rw (kept_of-short line short, kept_of-long (line ++ b ∷ []) (omega arith)) (pushed-full line b full)
-        ]
+        | inl long ↦ rw (kept_of-long line long, kept_of-long (line ++ b ∷ []) (omega arith)) (pushed-none b)
+        | inr short ↦ rw (kept_of-short line short, kept_of-long (line ++ b ∷ []) (omega arith)) (pushed-full line b full)
+      ]
     ]
 
 -- ---- a line begun before the others

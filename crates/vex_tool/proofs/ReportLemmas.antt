@@ -67,7 +67,8 @@ code-refused line text room out answer d h e =
 -- all lines that are too long have the same report
 pub SameForLong-report : (c : Command) → SameForLong (report c)
 unfolding report code
-SameForLong-report c = record { same = λ line long.
-  let above : ltb 8192 (length line) ≡ true = grind (arith, nat_tests) in
-  ap (λ (b : Bool). code_report c (cond b (Err LongLine) (or_bad_hex (decode_of (digits line))))) above
+SameForLong-report c = record {
+  same = λ line long.
+      let above : ltb 8192 (length line) ≡ true = grind (arith, nat_tests) in
+      ap (λ (b : Bool). code_report c (cond b (Err LongLine) (or_bad_hex (decode_of (digits line))))) above;
 }

@@ -112,4 +112,4 @@ module _ (c : Command) (status : Status) (before after : Moment) (ran : Ran (rep
   completes_by_number source sink within =
       completed status (report c) ran.bytes before after ran.ends source sink
       (λ past. within (rose input_limit before.given after.given
-        (ran.number (omega (arith, past)) ∙ ap (counted before.given) past)))
+      (ran.number (omega (arith, past)) ∙ ap (counted before.given) past)))

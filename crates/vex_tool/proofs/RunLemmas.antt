@@ -48,7 +48,7 @@ module _ (f : List ℕ → List ℕ) (before : Moment) where
     kept = refl;
     written = Appends-none before.text;
     source_quiet = refl;
-    sink_quiet = refl
+    sink_quiet = refl;
   }
 
   module _ (line : Option (List ℕ)) (room : ℕ) (now : Moment) (going : Going f before line room now) where
@@ -98,7 +98,7 @@ module _ (f : List ℕ → List ℕ) (before : Moment) where
           kept = kept ∙ ap (λ k. line_after k piece) going.kept ∙ sym (line_after-append (Some []) going.front piece);
           written = rw (ended-more piece) (Appends-then before.text mid.text text _ _ (written-more piece mid gave) written);
           source_quiet = gave.source_quiet ∙ going.source_quiet;
-          sink_quiet = quiet ∙ gave.sink_quiet ∙ going.sink_quiet
+          sink_quiet = quiet ∙ gave.sink_quiet ∙ going.sink_quiet;
         }
 
     -- ---- the run ends
@@ -121,8 +121,8 @@ module _ (f : List ℕ → List ℕ) (before : Moment) where
             within = omega arith;
             written = whole-written now.text long going.written;
             cause = rw going.source_quiet at cause;
-            sink_quiet = going.sink_quiet
-          }
+            sink_quiet = going.sink_quiet;
+          };
         }
 
     pub Ran-too_long : SameForLong f → (piece : List ℕ) (mid : Moment) → Gave piece now mid → room ≡ 0 → length piece ≡ 1
@@ -139,8 +139,8 @@ module _ (f : List ℕ → List ℕ) (before : Moment) where
             past = omega arith;
             written = rw (take_at going.front piece input_limit at_limit) (whole-written mid.text long (written-more piece mid gave));
             source_quiet = gave.source_quiet ∙ going.source_quiet;
-            sink_quiet = gave.sink_quiet ∙ going.sink_quiet
-          }
+            sink_quiet = gave.sink_quiet ∙ going.sink_quiet;
+          };
         }
 
     -- what all lines give, of which the last has no end
@@ -169,8 +169,8 @@ module _ (f : List ℕ → List ℕ) (before : Moment) where
             at_end = at_end;
             written = rw (output-going long) (Appends-then before.text mid.text text _ _ (written-more [] mid gave) written);
             source_quiet = gave.source_quiet ∙ going.source_quiet;
-            sink_quiet = quiet ∙ gave.sink_quiet ∙ going.sink_quiet
-          }
+            sink_quiet = quiet ∙ gave.sink_quiet ∙ going.sink_quiet;
+          };
         }
 
     pub Ran-finish_fault : SameForLong f → (mid : Moment) (text : Option (List ℕ)) (faults : ℕ) → Gave [] now mid
@@ -186,8 +186,8 @@ module _ (f : List ℕ → List ℕ) (before : Moment) where
             within = omega arith;
             written = rw (output-going long) (AppendsFront-then before.text mid.text text _ _ (written-more [] mid gave) written);
             source_quiet = gave.source_quiet ∙ going.source_quiet;
-            cause = rw (gave.sink_quiet ∙ going.sink_quiet) at cause
-          }
+            cause = rw (gave.sink_quiet ∙ going.sink_quiet) at cause;
+          };
         }
 
     pub Ran-feed_fault : SameForLong f → (piece : List ℕ) (mid : Moment) (text : Option (List ℕ)) (faults : ℕ) → Gave piece now mid
@@ -203,10 +203,10 @@ module _ (f : List ℕ → List ℕ) (before : Moment) where
           ends = record {
             within = omega arith;
             written = rw (output-ended f long (going.front ++ piece), ended-more piece)
-              (AppendsFront-more before.text text _ _ (AppendsFront-then before.text mid.text text _ _ (written-more piece mid gave) written));
+                (AppendsFront-more before.text text _ _ (AppendsFront-then before.text mid.text text _ _ (written-more piece mid gave) written));
             source_quiet = gave.source_quiet ∙ going.source_quiet;
-            cause = rw (gave.sink_quiet ∙ going.sink_quiet) at cause
-          }
+            cause = rw (gave.sink_quiet ∙ going.sink_quiet) at cause;
+          };
         }
 
 -- a read put n bytes into the first places
@@ -218,7 +218,7 @@ Gave-read now left given faults n into fits takes counts quiet = record {
   number = counts ∙ ap (counted now.given) (sym (length-take-le n into fits));
   source_quiet = quiet;
   text = refl;
-  sink_quiet = refl
+  sink_quiet = refl;
 }
 
 -- a read that gave nothing
@@ -230,5 +230,5 @@ Gave-none now left given faults n into none takes counts quiet = record {
   number = rw none at counts;
   source_quiet = quiet;
   text = refl;
-  sink_quiet = refl
+  sink_quiet = refl;
 }

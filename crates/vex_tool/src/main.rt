@@ -14,7 +14,10 @@ use ends::{Sink, Source};
 use input::answer_input;
 use status::Status;
 use std::alloc::Global;
-use words::Words;
+use std::env::{Env, FillError};
+use std::process::ExitCode;
+use std_ends::{StdSink, StdSource};
+use words::{MAX_WORD_LEN, Words};
 
 mod command;
 mod ends;
@@ -25,6 +28,8 @@ mod report;
 mod result_line;
 mod status;
 mod std_ends;
+#[cfg(test)]
+mod tests;
 mod words;
 
 /// Runs the command that the words ask for, over all that the source has left.
@@ -32,12 +37,7 @@ mod words;
 /// For each line of the input `recode P` writes one line. The status is `Usage` where the words are no
 /// command or one was refused. Else it is that of the first of these events: a read failed, a write
 /// failed, the source gave a byte after 2^26 bytes, or all is written and the input has ended.
-pub fn run<S: Source, K: Sink>(
-    alloc: Global,
-    words: &Words,
-    source: &mut S,
-    sink: &mut K,
-) -> Status
+pub fn run<S: Source, K: Sink>(alloc: Global, words: &Words, source: &mut S, sink: &mut K) -> Status
     // `Usage` comes exactly where the words are no command or one was refused, and changes nothing.
     ensures usage { (result ≡ Status.Usage) ↔ (IsNone (command words.now.0) ⊎ IsTrue words.now.1) }
     ensures untouched { result ≡ Status.Usage → (source.new ≡ source.old) × (sink.new ≡ sink.old) }
@@ -84,4 +84,38 @@ pub fn run<S: Source, K: Sink>(
     }
 }
 
-fn main() {}
+// A word that is refused, for an argument that is too long to be kept or is not UTF-8.
+const REFUSED: &str = "xxxxxxxxxxxxxxxxxxxxxxxxxxxxxxxxxxxxxxxxxxxxxxxxxxxxxxxxxxxxxxxxx";
+
+// Pushes an argument.
+fn push_argument(words: &mut Words, argument: &[u8]) -> bool {
+    match str::from_utf8(argument) {
+        Ok(word) => words.push(word),
+        Err(_) => words.push(REFUSED),
+    }
+}
+
+// Pushes the program's arguments, without its name.
+fn push_arguments(env: &impl Env, words: &mut Words) {
+    let mut buffer = [0u8; MAX_WORD_LEN];
+    for i in 1..usize::MAX {
+        let _ = match env.arg(i, &mut buffer) {
+            Ok(n) => push_argument(words, &buffer[..n]),
+            Err(FillError::TooLong) => words.push(REFUSED),
+            Err(FillError::NotPresent) => return,
+        };
+    }
+}
+
+fn main(rt: HostRuntime) -> ExitCode {
+    let mut words = Words::new();
+    push_arguments(&rt, &mut words);
+    let mut source = StdSource::new(rt.stdin());
+    let mut sink = StdSink::new(rt.stdout());
+    let status = run(rt.alloc(), &words, &mut source, &mut sink);
+    if status != Status::Done {
+        // Nothing is left to do where this fails too.
+        let _ = eprintln!(rt; "vex_tool: {}", status.name());
+    }
+    ExitCode::from(status.code())
+}

@@ -13,6 +13,7 @@ pub const MAX_WORDS: usize = 4;
 pub const MAX_WORD_LEN: usize = 64;
 
 /// The words of the command line: at most 4, each of at most 64 bytes, and whether one was refused.
+#[derive(Drop)]
 pub struct Words {
     kept: ArrayVec<ArrayString<64>, 4>,
     over: bool,

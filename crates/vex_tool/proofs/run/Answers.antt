@@ -4,7 +4,7 @@ use Rattle.vex_tool.proofs.run.Goals as goal
 
 pub returns-in-Some-clause-done_written : goal.returns-in-Some-clause-done_written
 returns-in-Some-clause-done_written g c = λ e.
-  IfSome-at _ _ _ (sym c.in-Some.ensures) (done_written _ _ _ _ c.answer_input.ensures e)
+    IfSome-at _ _ _ (sym c.in-Some.ensures) (done_written _ _ _ _ c.answer_input.ensures e)
 
 pub returns-in-Some-clause-too_long : goal.returns-in-Some-clause-too_long
 returns-in-Some-clause-too_long g c = too_long _ _ _ _ c.answer_input.ensures
@@ -14,15 +14,15 @@ returns-in-Some-clause-too_long_exactly g c = too_long_exactly _ _ _ _ c.answer_
 
 pub returns-in-Some-clause-after_read_fault : goal.returns-in-Some-clause-after_read_fault
 returns-in-Some-clause-after_read_fault g c = λ e.
-  IfSome-at _ _ _ (sym c.in-Some.ensures) (after_read_fault _ _ _ _ c.answer_input.ensures e)
+    IfSome-at _ _ _ (sym c.in-Some.ensures) (after_read_fault _ _ _ _ c.answer_input.ensures e)
 
 pub returns-in-Some-clause-after_write_fault : goal.returns-in-Some-clause-after_write_fault
 returns-in-Some-clause-after_write_fault g c = λ e.
-  IfSome-at _ _ _ (sym c.in-Some.ensures) (after_write_fault _ _ _ _ c.answer_input.ensures e)
+    IfSome-at _ _ _ (sym c.in-Some.ensures) (after_write_fault _ _ _ _ c.answer_input.ensures e)
 
 pub returns-in-Some-clause-after_too_long : goal.returns-in-Some-clause-after_too_long
 returns-in-Some-clause-after_too_long g c = λ e.
-  IfSome-at _ _ _ (sym c.in-Some.ensures) (after_too_long _ _ _ _ c.answer_input.ensures e)
+    IfSome-at _ _ _ (sym c.in-Some.ensures) (after_too_long _ _ _ _ c.answer_input.ensures e)
 
 pub returns-in-Some-clause-completes : goal.returns-in-Some-clause-completes
 returns-in-Some-clause-completes g c = λ _ _ source sink within. completes _ _ _ _ c.answer_input.ensures source sink within

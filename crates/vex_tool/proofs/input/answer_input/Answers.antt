@@ -43,7 +43,7 @@ returns-in-Ok g c =
     c.if-room-eq0.true (rw (length-take-le n c.read.new.into fits) one)
 
 pub returns-in-Err-feed : goal.returns-in-Err-feed
-returns-in-Err-feed g c = 
+returns-in-Err-feed g c =
     let read = c.in-Ok.ensures in
     let n = c.in-Ok.field-0 in
     let same = c.read.auto.into in
@@ -67,5 +67,5 @@ loop-line-preserved g c =
     let fed = c.in_default.ensures in
     rw len at
     (Going-step _ _ _ _ _ c.loop-line.invariant _ _ _ _ _
-      (Gave-read _ _ _ _ _ c.read.new.into fits read.takes read.counts read.quiet)
-      (omega arith) (rw len within) fed.kept fed.written.appends fed.written.quiet)
+    (Gave-read _ _ _ _ _ c.read.new.into fits read.takes read.counts read.quiet)
+    (omega arith) (rw len within) fed.kept fed.written.appends fed.written.quiet)

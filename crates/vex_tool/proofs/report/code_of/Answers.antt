@@ -13,7 +13,7 @@ decoded c =
       digits_of = c.as_slice.ensures.value ∙ c.digits_of-digits.ensures;
       half = omega arith;
       same_len = c.decode_to_slice.auto.out ∙ ap length c.as_mut_slice.ensures.value;
-      decoded = rw c.as_mut_slice.ensures.value at c.decode_to_slice.ensures.value
+      decoded = rw c.as_mut_slice.ensures.value at c.decode_to_slice.ensures.value;
     }
 
 pub returns-in-Ok : goal.returns-in-Ok
