@@ -79,6 +79,11 @@ module _ (c : Command) (status : Status) (before after : Moment) (ran : Ran (rep
       rose input_limit before.given after.given
       (long.number (omega (arith, long.ends.past)) ∙ ap (counted before.given) long.ends.past)
 
+  pub too_long_by_number : before.given + input_limit < after.given → status ≡ TooLong
+  too_long_by_number more =
+      let at_most = ran.at_most in
+      (past_limit status (report c) ran.bytes before after ran.ends).1 (omega arith)
+
   pub too_long_exactly : WhereTaken before.left after.left (λ taken. (status ≡ TooLong) ↔ (input_limit < length taken))
   too_long_exactly =
       WhereTaken-from before.left after.left _ ran.bytes ran.taken (past_limit status (report c) ran.bytes before after ran.ends)

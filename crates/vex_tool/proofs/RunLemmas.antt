@@ -72,6 +72,20 @@ module _ (f : List ℕ → List ℕ) (before : Moment) where
               gave.number ∙ ap (λ n. counted n (length piece)) old ∙ ap (counted before.given) same
         ]
 
+    number-at_most : now.given ≤ before.given + length going.front
+    number-at_most =
+        elim (cases_lt 0 (length going.front)) [
+          | inl more ↦ let is = going.number more in omega arith
+          | inr none ↦ let is = going.start (omega arith) in omega arith
+        ]
+
+    number-at_most-more : (piece : List ℕ) (mid : Moment) → Gave piece now mid → mid.given ≤ before.given + length (going.front ++ piece)
+    number-at_most-more piece mid gave =
+        let len = length-append going.front piece in
+        let so_far = number-at_most in
+        let is = gave.number in
+        omega arith
+
     written-more : (piece : List ℕ) (mid : Moment) → Gave piece now mid → Appends before.text mid.text (ended f (Some []) going.front)
     written-more piece mid gave = rw gave.text going.written
 
@@ -117,6 +131,7 @@ module _ (f : List ℕ → List ℕ) (before : Moment) where
           bytes = going.front;
           taken = Consumes-keeps before.left now.left left going.front going.taken keeps;
           number = λ some. same ∙ going.number some;
+          at_most = rw same number-at_most;
           ends = record {
             within = omega arith;
             written = whole-written now.text long going.written;
@@ -135,6 +150,7 @@ module _ (f : List ℕ → List ℕ) (before : Moment) where
           bytes = going.front ++ piece;
           taken = taken-more piece mid gave;
           number = number-more piece mid gave;
+          at_most = number-at_most-more piece mid gave;
           ends = record {
             past = omega arith;
             written = rw (take_at going.front piece input_limit at_limit) (whole-written mid.text long (written-more piece mid gave));
@@ -155,6 +171,9 @@ module _ (f : List ℕ → List ℕ) (before : Moment) where
     number-none : (mid : Moment) → Gave [] now mid → 0 < length going.front → mid.given ≡ counted before.given (length going.front)
     number-none mid gave = rw append-nil at (number-more [] mid gave)
 
+    number-at_most-none : (mid : Moment) → Gave [] now mid → mid.given ≤ before.given + length going.front
+    number-at_most-none mid gave = rw append-nil at (number-at_most-more [] mid gave)
+
     pub Ran-done : SameForLong f → (mid : Moment) (text : Option (List ℕ)) (faults : ℕ) → Gave [] now mid → IsAtEnd mid.left
         → Appends mid.text text (last f line) → faults ≡ mid.sink_faults
         → Ran f Done before (record mid { text = text; sink_faults = faults })
@@ -164,6 +183,7 @@ module _ (f : List ℕ → List ℕ) (before : Moment) where
           bytes = going.front;
           taken = taken-none mid gave;
           number = number-none mid gave;
+          at_most = number-at_most-none mid gave;
           ends = record {
             within = omega arith;
             at_end = at_end;
@@ -182,6 +202,7 @@ module _ (f : List ℕ → List ℕ) (before : Moment) where
           bytes = going.front;
           taken = taken-none mid gave;
           number = number-none mid gave;
+          at_most = number-at_most-none mid gave;
           ends = record {
             within = omega arith;
             written = rw (output-going long) (AppendsFront-then before.text mid.text text _ _ (written-more [] mid gave) written);
@@ -200,6 +221,7 @@ module _ (f : List ℕ → List ℕ) (before : Moment) where
           bytes = going.front ++ piece;
           taken = taken-more piece mid gave;
           number = number-more piece mid gave;
+          at_most = number-at_most-more piece mid gave;
           ends = record {
             within = omega arith;
             written = rw (output-ended f long (going.front ++ piece), ended-more piece)

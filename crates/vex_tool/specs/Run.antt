@@ -61,4 +61,5 @@ pub record Ran (f : List ℕ → List ℕ) (status : Status) (before after : Mom
   pub bytes : List ℕ
   pub taken : Consumes before.left after.left bytes
   pub number : 0 < length bytes → after.given ≡ counted before.given (length bytes)
+  pub at_most : after.given ≤ before.given + length bytes
   pub ends : EndsBy status f bytes before after

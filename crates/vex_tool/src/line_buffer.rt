@@ -17,7 +17,7 @@ const LINE_END: u8 = b'\n';
 /// The bytes of the unfinished line, as long as these are at most 8,192.
 #[derive(Drop)]
 pub struct LineBuffer {
-    kept: ArrayVec<u8, 8192>,
+    kept: ArrayVec<u8, MAX_LINE>,
     is_long: bool,
 }
 

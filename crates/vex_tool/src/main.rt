@@ -52,6 +52,7 @@ pub fn run<S: Source, K: Sink>(alloc: Global, words: &Words, source: &mut S, sin
     ensures read_fault { result ≡ Status.ReadFault → RoseOrIsLast (S.faults source.old) (S.faults source.new) }
     ensures write_fault { result ≡ Status.WriteFault → RoseOrIsLast (K.faults sink.old) (K.faults sink.new) }
     ensures too_long { result ≡ Status.TooLong → RoseByMoreThan input_limit (S.given source.old) (S.given source.new) }
+    ensures too_long_by_number { S.given source.old + input_limit < S.given source.new → result ≡ Status.TooLong }
     ensures too_long_exactly { WhereTaken (S.left source.old) (S.left source.new) (λ taken.
         (result ≡ Status.TooLong) ↔ (input_limit < length taken)) }
     ensures no_memory { result ≢ Status.NoMemory }

@@ -13,6 +13,9 @@ use arrayvec::ArrayVec;
 /// How many bytes a line has, at most.
 pub const MAX_LINE: usize = 8192;
 
+/// How many bytes a line writes in hex digits, at most.
+const MAX_CODE: usize = MAX_LINE / 2;
+
 /// Why a line writes no code.
 #[derive(Clone, Copy, PartialEq, Eq, Debug)]
 pub enum LineError {
@@ -29,7 +32,7 @@ fn is_blank(byte: u8) -> bool
 }
 
 // The line without its spaces, tabs and bytes 13.
-fn digits_of(line: &[u8]) -> ArrayVec<u8, 8192>
+fn digits_of(line: &[u8]) -> ArrayVec<u8, MAX_LINE>
     requires { length line.now ≤ MAX_LINE }
     ensures { result.items ≡ digits line.now }
 {
@@ -43,12 +46,12 @@ fn digits_of(line: &[u8]) -> ArrayVec<u8, 8192>
 }
 
 // The bytes that a line writes in hex digits.
-fn code_of(line: &[u8]) -> Result<ArrayVec<u8, 4096>, LineError>
+fn code_of(line: &[u8]) -> Result<ArrayVec<u8, MAX_CODE>, LineError>
     requires { length line.now ≤ MAX_LINE }
     ensures { MatchResult result (λ bytes. code line.now ≡ Ok bytes.items) (λ e. code line.now ≡ Err e) }
 {
     let digits = digits_of(line);
-    let mut bytes = ArrayVec::from([0u8; 4096]);
+    let mut bytes = ArrayVec::from([0u8; MAX_CODE]);
     bytes.truncate(digits.len() / 2);
     match hex::decode_to_slice(digits.as_slice(), bytes.as_mut_slice()) {
         Ok(()) => Ok(bytes),

@@ -15,7 +15,7 @@ pub const MAX_WORD_LEN: usize = 64;
 /// The words of the command line: at most 4, each of at most 64 bytes, and whether one was refused.
 #[derive(Drop)]
 pub struct Words {
-    kept: ArrayVec<ArrayString<64>, 4>,
+    kept: ArrayVec<ArrayString<MAX_WORD_LEN>, MAX_WORDS>,
     over: bool,
 }
 
@@ -42,7 +42,7 @@ impl Words {
     /// Appends a word. It is refused, and the words stay as they were, exactly where four words are
     /// kept already or it has more than 64 bytes.
     pub fn push(&mut self, word: &str) -> bool
-        ensures accepts { IsTrue result ↔ (length self.old.0 < MAX_WORDS) × (length word.now ≤ MAX_WORD_LEN) }
+        ensures accepts { IsTrue result ↔ ((length self.old.0 < 4) × (length word.now ≤ 64)) }
         ensures accepted { OnTrue result (self.new ≡ (self.old.0 ++ word.now ∷ [], self.old.1)) }
         ensures refused { OnFalse result (self.new ≡ (self.old.0, true)) }
     {

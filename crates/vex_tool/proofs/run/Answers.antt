@@ -1,5 +1,5 @@
 use Rattle.std.proofs.Common.{sym}
-use Rattle.vex_tool.proofs.RunClauses.{IfSome-at, done_written, too_long, too_long_exactly, after_read_fault, after_write_fault, after_too_long, completes, completes_by_number}
+use Rattle.vex_tool.proofs.RunClauses.{IfSome-at, done_written, too_long, too_long_by_number, too_long_exactly, after_read_fault, after_write_fault, after_too_long, completes, completes_by_number}
 use Rattle.vex_tool.proofs.run.Goals as goal
 
 pub returns-in-Some-clause-done_written : goal.returns-in-Some-clause-done_written
@@ -8,6 +8,9 @@ returns-in-Some-clause-done_written g c = λ e.
 
 pub returns-in-Some-clause-too_long : goal.returns-in-Some-clause-too_long
 returns-in-Some-clause-too_long g c = too_long _ _ _ _ c.answer_input.ensures
+
+pub returns-in-Some-clause-too_long_by_number : goal.returns-in-Some-clause-too_long_by_number
+returns-in-Some-clause-too_long_by_number g c = too_long_by_number _ _ _ _ c.answer_input.ensures
 
 pub returns-in-Some-clause-too_long_exactly : goal.returns-in-Some-clause-too_long_exactly
 returns-in-Some-clause-too_long_exactly g c = too_long_exactly _ _ _ _ c.answer_input.ensures
