@@ -1,3 +1,4 @@
 pub mod Slots
 pub mod Gives
 pub mod Tests
+pub mod Layout

@@ -1,6 +1,11 @@
 //! The operand forms: which slot names which operand, and how large the memory operand is.
 #![tactic(auto)]
 
+mod choice;
+mod row_layout;
 mod slot;
+mod sizes;
+mod slots;
 
+pub use row_layout::{RowLayout, layout};
 pub use slot::{Slot, VvvvRule};
