@@ -5,3 +5,4 @@ pub mod Canon
 pub mod Refusals
 pub mod Direct
 pub mod Mapped
+pub mod MeaningGiven

@@ -3,6 +3,7 @@
 
 mod bytes;
 mod form;
+mod instruction;
 mod operands;
 mod prefix;
 mod spelling;
