@@ -4,5 +4,7 @@ pub mod Standard
 pub mod Canon
 pub mod Refusals
 pub mod Direct
+pub mod Fit
 pub mod Mapped
+pub mod Chosen
 pub mod MeaningGiven

@@ -4,3 +4,5 @@ pub mod Reads
 pub mod Form
 pub mod Walk
 pub mod Operands
+pub mod Facts
+pub mod Decodes

@@ -2,6 +2,7 @@
 #![tactic(auto)]
 
 mod bytes;
+mod decode;
 mod form;
 mod instruction;
 mod operands;

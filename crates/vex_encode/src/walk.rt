@@ -1,11 +1,12 @@
 //! Reading an instruction from the front of a slice, but for the settings.
 
-ghost use Rattle.std.specs.Prelude.{◌≡◌, ◌+◌, ◌-◌, Ok, Err, length};
+ghost use Rattle.std.specs.Prelude.{IfOk};
 ghost use Rattle.vex_rows.specs.Row.{Among};
 ghost use Rattle.vex_rows.specs.Table.{table};
 ghost use Rattle.vex_decode.specs.Fields.{fields_of};
 ghost use Rattle.vex_decode.specs.Walk.{key_of, entry_of, found, walk};
 ghost use Rattle.vex_encode.specs.Reads.{Gives};
+ghost use Rattle.vex_encode.specs.Facts.{ChooseRow, TakesSpelling};
 ghost use Rattle.vex_encode.specs.Walk.{FindsEntry, ReadsInstruction};
 
 use crate::bytes::first_byte;
@@ -41,9 +42,9 @@ fn find_entry<'a>(prefix: &Prefix, byte: u8, rest: &'a [u8]) -> Result<(Entry, &
     }
 }
 
-/// The parts of the instruction at the front of the bytes, and the bytes after it.
+/// The parts of the instruction at the front of the bytes, and the bytes after it, step by step.
 #[tactic(auto, unfolding(vex_decode::specs::Walk::walk))]
-pub fn read_instruction(bytes: &[u8]) -> Result<(InstructionParts, &[u8]), DecodeError>
+fn read_instruction(bytes: &[u8]) -> Result<(InstructionParts, &[u8]), DecodeError>
     ensures { ReadsInstruction result (walk bytes.now) }
 {
     let (prefix, rest) = read_prefix(bytes)?;
@@ -56,4 +57,13 @@ pub fn read_instruction(bytes: &[u8]) -> Result<(InstructionParts, &[u8]), Decod
         form,
     };
     Ok((parts, rest))
+}
+
+/// The parts of the instruction at the front of the bytes, which choose a row that exists, and the bytes after it.
+pub fn read_row(bytes: &[u8]) -> Result<(InstructionParts, &[u8]), DecodeError>
+    ensures read { ReadsInstruction result (walk bytes.now) }
+    ensures row { IfOk result (λ read. ChooseRow read.0) }
+    ensures taken { IfOk result (λ read. TakesSpelling bytes.now read.1.now) }
+{
+    read_instruction(bytes)
 }
