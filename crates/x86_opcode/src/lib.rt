@@ -20,9 +20,10 @@ use list::{ALL, FIRST_FLOAT, FIRST_FUSED, FIRST_INTEGER, FIRST_LEGACY, FIRST_MAR
 use std::fmt;
 
 /// An opcode: an enum of parts by subject, with one constant for each name, as `Opcode::VADDPS`.
-#[derive(Clone, Copy, PartialEq, Eq)]
+#[derive(Clone, Copy, PartialEq, Eq, Default)]
 pub enum Opcode {
     /// No instruction: what an entry announces where a group or the operand decides.
+    #[default]
     Invalid,
     /// Bit scan forward: what a `TZCNT` is without the setting `bmi1`.
     BSF,
