@@ -1,5 +1,5 @@
 -- What the slots of a row must be for the laws of spellings: a test that is computed.
-use Rattle.std.specs.Prelude.{ℕ, ◌+◌, Bool, true, false, not, ◌&&◌, ◌||◌, nat_le, List, [], ◌∷◌, if◌then◌else◌}
+use Rattle.std.specs.Prelude.{ℕ, ◌+◌, Bool, true, false, not, ◌&&◌, ◌||◌, nat_le, length, List, [], ◌∷◌, if◌then◌else◌}
 use Rattle.std.specs.List.{list_any}
 use Rattle.vex_rows.specs.declared.form.Form.{Form}
 use Rattle.vex_rows.specs.Steps.{steps}
@@ -20,3 +20,7 @@ is_sound form row =
   && not (list_any names_v (slots_of form row)
     && (list_any (demands_v row.kind) (steps form).first || list_any (demands_v row.kind) (steps form).third))
   && ((steps form).modrm || not (list_any names_g (slots_of form row)))
+
+-- whether a form has at most four slots
+abbrev pub has_few : Form → Row → Bool
+has_few form row = nat_le (length (slots_of form row)) 4
