@@ -10,3 +10,6 @@ mod slots;
 
 pub use row_layout::{RowLayout, layout};
 pub use slot::{Slot, VvvvRule};
+
+#[cfg(test)]
+mod tests;

@@ -16,3 +16,6 @@ pub use groups::groups_of;
 pub use key::{Key, Map, Pp, Prefix};
 pub use entries::{entry_at, entry_count, lookup};
 pub use steps::{Check, Steps, steps_of};
+
+#[cfg(test)]
+mod tests;
