@@ -1,22 +1,21 @@
 -- The rows are the choices that can be and exist.
-use Rattle.std.specs.Prelude.{◌≡◌, refl, ◌⊎◌, ℕ, ◌<◌, ◌≤◌, Bool, true, false, not, ◌&&◌, ◌||◌, ◌==◌, nat_lt, List, [], ◌∷◌, ◌++◌, map, Option, Some, None, cond, if◌then◌else◌}
+use Rattle.std.specs.Prelude.{◌≡◌, refl, ℕ, ◌<◌, ◌≤◌, Bool, true, false, not, ◌&&◌, ◌||◌, ◌==◌, nat_lt, List, [], ◌∷◌, ◌++◌, map, Option, Some, None, if◌then◌else◌}
 use Rattle.std.specs.List.{list_all, list_any}
-use Rattle.std.proofs.Common.{zero, suc, inl, inr, sym, ◌∙◌, ap, subst, arith, eqb-true, ltb-true}
+use Rattle.std.proofs.Common.{zero, suc, inl, inr, sym, ap, subst, arith, eqb-true, ltb-true}
 use Rattle.x86_opcode.specs.declared.Opcode.{Opcode}
 use Rattle.x86_operand.specs.Kind.{Kind, WithoutModRM, InRegister, InMemory}
 use Rattle.vex_rows.specs.declared.entry.Entry.{Entry}
-use Rattle.vex_rows.specs.declared.form.Form.{Form}
 use Rattle.vex_rows.specs.declared.steps.Check.{Check}
 use Rattle.vex_rows.specs.declared.steps.Check.TheVariants.{V0, L0, Reg, Mem, Group, VifMem}
 use Rattle.vex_rows.specs.Rules.{allows}
 use Rattle.vex_rows.specs.Steps.{steps}
 use Rattle.vex_rows.specs.Groups.{groups}
 use Rattle.vex_rows.specs.Table.{table}
-use Rattle.vex_rows.specs.Row.{Row, Among, IsRow, row_at, exists, has_groups, is_group, is_group_check, is_memory, kinds_of, group_choices, permits_choice}
+use Rattle.vex_rows.specs.Row.{Row, Among, IsRow, row_at, exists, has_groups, is_group, is_group_check, is_memory, permits_choice}
 use Rattle.vex_rows.proofs.Forms.{small_groups}
-use Rattle.vex_rows.proofs.Lists.{from-map, from-list_all, both-parts, parts-both, among-append_left, among-append_right}
-use Rattle.vex_rows.proofs.Rows.{Chosen, chosen-row, row-chosen, checks_of}
-use Rattle.vex_forms.specs.Layout.{kind_for, group_for, may_be, row_for}
+use Rattle.vex_rows.proofs.Lists.{from-map, from-list_all, both-parts, among-append_left, among-append_right}
+use Rattle.vex_rows.proofs.Rows.{chosen-row, row-chosen, checks_of}
+use Rattle.vex_forms.specs.Layout.{may_be, row_for}
 use Rattle.vex_forms.specs.Laws.{IsChoice}
 
 -- an L of one bit
@@ -41,23 +40,26 @@ memory-may_be false kind (inr m) = absurd m
 -- a reg field that a form may have
 group-again : (grouped : Bool) (gs : List (ℕ × Opcode)) (group : Option ℕ) → Among group (if grouped then map (λ g. Some g.0) gs else None ∷ []) → list_all (λ g. nat_lt g.0 8) gs ≡ true → (reg : ℕ) × (reg < 8) × ((if grouped then Some reg else None) ≡ group)
 group-again true gs group m small =
-  let from = from-map (λ g. Some g.0) group gs m in
-  (from.0.0, ltb-true from.0.0 8 (from-list_all (λ g. nat_lt g.0 8) from.0 gs small from.1), sym from.2)
+    let from = from-map (λ g. Some g.0) group gs m in
+    (from.0.0, ltb-true from.0.0 8 (from-list_all (λ g. nat_lt g.0 8) from.0 gs small from.1), sym from.2)
 group-again false gs group (inl e) small = (0, omega arith, sym e)
 group-again false gs group (inr m) small = absurd m
 
 -- every row is a choice
 pub row-is_choice : (row : Row) → IsRow row → IsChoice row
 row-is_choice row m =
-  let chosen = chosen-row row m in
-  let field = group-again (has_groups row.entry.form) (groups row.entry.form row.l) row.group chosen.group (small_groups row.entry.form row.l) in
-  let at_l = one_bit-again row.l chosen.one_bit in
-  let at_kind = kind-again (steps row.entry.form).modrm row.kind chosen.kind in
-  record {
-    l = row.l == 1; memory = is_memory row.kind; group = field.0; small = field.1;
-    row_is = λ i. record { entry = row.entry; w = row.w; l = sym at_l i; kind = sym at_kind i; group = sym field.2 i };
-    may_be = memory-may_be (steps row.entry.form).modrm row.kind chosen.kind;
-  }
+    let chosen = chosen-row row m in
+    let field = group-again (has_groups row.entry.form) (groups row.entry.form row.l) row.group chosen.group (small_groups row.entry.form row.l) in
+    let at_l = one_bit-again row.l chosen.one_bit in
+    let at_kind = kind-again (steps row.entry.form).modrm row.kind chosen.kind in
+    record {
+      l = row.l == 1;
+      memory = is_memory row.kind;
+      group = field.0;
+      small = field.1;
+      row_is = λ i. record { entry = row.entry; w = row.w; l = sym at_l i; kind = sym at_kind i; group = sym field.2 i };
+      may_be = memory-may_be (steps row.entry.form).modrm row.kind chosen.kind;
+    }
 
 -- an L as a number
 bit_at_most_one : (l : Bool) → (if l then 1 else 0) ≤ 1
@@ -97,7 +99,7 @@ field-among false gs reg h = inl refl
 check-among : (entry : Entry) → has_groups entry.form ≡ true → Among Group (checks_of entry)
 unfolding has_groups
 check-among entry h =
-  among-append_left Group ((steps entry.form).first ++ (steps entry.form).second) (steps entry.form).third
+    among-append_left Group ((steps entry.form).first ++ (steps entry.form).second) (steps entry.form).third
     (among-append_right Group (steps entry.form).first (steps entry.form).second (group_check-among (steps entry.form).second h))
 
 -- a group that the check permits
@@ -108,15 +110,18 @@ permitted row reg e h = subst (λ group. permits_choice (row_at row.entry row.w 
 pub choice-is_row : (entry : Entry) (w l memory : Bool) (group : ℕ) → Among entry table → may_be entry memory ≡ true → exists (row_for entry w l memory group) ≡ true → IsRow (row_for entry w l memory group)
 unfolding exists
 choice-is_row entry w l memory group m may there =
-  let row = row_for entry w l memory group in
-  let both = both-parts (allows entry.w w && allows entry.l (row.l == 1)) (list_all (permits_choice row) (checks_of entry)) there in
-  let rules = both-parts (allows entry.w w) (allows entry.l (row.l == 1)) both.0 in
-  let field : has_groups entry.form ≡ true → is_group (groups entry.form row.l) group ≡ true =
+    let row = row_for entry w l memory group in
+    let both = both-parts (allows entry.w w && allows entry.l (row.l == 1)) (list_all (permits_choice row) (checks_of entry)) there in
+    let rules = both-parts (allows entry.w w) (allows entry.l (row.l == 1)) both.0 in
+    let field : has_groups entry.form ≡ true → is_group (groups entry.form row.l) group ≡ true =
     λ h. permitted row group (ap (λ grouped. if grouped then Some group else None) h)
-      (from-list_all (permits_choice row) Group (checks_of entry) both.1 (check-among entry h)) in
-  row-chosen row (record {
-    listed = m; w = rules.0; l = rules.1; one_bit = bit_at_most_one l;
-    kind = kind-among (steps entry.form).modrm memory may;
-    group = field-among (has_groups entry.form) (groups entry.form row.l) group field;
-    checks = both.1;
-  })
+    (from-list_all (permits_choice row) Group (checks_of entry) both.1 (check-among entry h)) in
+    row-chosen row (record {
+      listed = m;
+      w = rules.0;
+      l = rules.1;
+      one_bit = bit_at_most_one l;
+      kind = kind-among (steps entry.form).modrm memory may;
+      group = field-among (has_groups entry.form) (groups entry.form row.l) group field;
+      checks = both.1;
+    })

@@ -1,6 +1,5 @@
 -- The slots of every row fit its steps.
-use Rattle.std.specs.Prelude.{◌≡◌, refl, ◌≤◌, nat_le, length, Bool, true, false, not, ◌&&◌, ◌||◌, List, [], ◌∷◌, if◌then◌else◌}
-use Rattle.x86_operand.specs.declared.register.RegisterBank.TheVariants.{X}
+use Rattle.std.specs.Prelude.{◌≡◌, refl, ◌≤◌, nat_le, length, Bool, true, false, not, ◌&&◌, ◌||◌, if◌then◌else◌}
 use Rattle.x86_operand.specs.Kind.{Kind, WithoutModRM, InRegister, InMemory}
 use Rattle.vex_rows.specs.declared.form.Form.{Form}
 use Rattle.vex_rows.specs.declared.form.Form.TheVariants.{Nothing, VMOVSS_10, VMOVSD_10, VMOVSS_11, VMOVSD_11}
@@ -56,9 +55,9 @@ pub record Sound (row : Row) : Type 0 where
 
 pub sound_row : (row : Row) → Sound row
 sound_row row =
-  let all = both-parts (nat_le (immediates (slots_of row.entry.form row)) (if (steps row.entry.form).imm then 1 else 0) && not (named row && demanded row)) ((steps row.entry.form).modrm || not (list_any names_g (slots_of row.entry.form row))) (sound row.entry.form row) in
-  let two = both-parts (nat_le (immediates (slots_of row.entry.form row)) (if (steps row.entry.form).imm then 1 else 0)) (not (named row && demanded row)) all.0 in
-  record { immediates = two.0; v = two.1; alone = all.1 }
+    let all = both-parts (nat_le (immediates (slots_of row.entry.form row)) (if (steps row.entry.form).imm then 1 else 0) && not (named row && demanded row)) ((steps row.entry.form).modrm || not (list_any names_g (slots_of row.entry.form row))) (sound row.entry.form row) in
+    let two = both-parts (nat_le (immediates (slots_of row.entry.form row)) (if (steps row.entry.form).imm then 1 else 0)) (not (named row && demanded row)) all.0 in
+    record { immediates = two.0; v = two.1; alone = all.1 }
 
 -- what a row asks of vvvv, by what its slots name and its steps demand
 rule_demanded : (named demanded : Bool) → not (named && demanded) ≡ true → demanded ≡ true → (if named then Named else if demanded then Zero else Free) ≡ Zero

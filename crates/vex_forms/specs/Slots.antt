@@ -328,6 +328,6 @@ demands_v kind _ = false
 -- what a row asks of vvvv: it names an operand, or it is 0 since a step demands it, or it plays no part
 unfoldable pub v_rule : Row → VvvvRule
 v_rule row =
-  if list_any names_v (slots row) then Named
-  else if list_any (demands_v row.kind) (steps row.entry.form).first || list_any (demands_v row.kind) (steps row.entry.form).third
-  then Zero else Free
+    if list_any names_v (slots row) then Named
+    else if list_any (demands_v row.kind) (steps row.entry.form).first || list_any (demands_v row.kind) (steps row.entry.form).third
+    then Zero else Free

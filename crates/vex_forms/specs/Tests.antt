@@ -1,5 +1,5 @@
 -- What the slots of a row must be for the laws of spellings: a test that is computed.
-use Rattle.std.specs.Prelude.{ℕ, ◌+◌, Bool, true, false, not, ◌&&◌, ◌||◌, nat_le, length, List, [], ◌∷◌, if◌then◌else◌}
+use Rattle.std.specs.Prelude.{ℕ, ◌+◌, Bool, not, ◌&&◌, ◌||◌, nat_le, length, List, [], ◌∷◌, if◌then◌else◌}
 use Rattle.std.specs.List.{list_any}
 use Rattle.vex_rows.specs.declared.form.Form.{Form}
 use Rattle.vex_rows.specs.Steps.{steps}
@@ -16,10 +16,10 @@ immediates (slot ∷ slots) = (if names_imm slot then 1 else 0) + immediates slo
 -- isn't demanded to be 0 where a slot names it; without ModRM no slot names the field reg
 abbrev pub is_sound : Form → Row → Bool
 is_sound form row =
-  nat_le (immediates (slots_of form row)) (if (steps form).imm then 1 else 0)
-  && not (list_any names_v (slots_of form row)
+    nat_le (immediates (slots_of form row)) (if (steps form).imm then 1 else 0)
+    && not (list_any names_v (slots_of form row)
     && (list_any (demands_v row.kind) (steps form).first || list_any (demands_v row.kind) (steps form).third))
-  && ((steps form).modrm || not (list_any names_g (slots_of form row)))
+    && ((steps form).modrm || not (list_any names_g (slots_of form row)))
 
 -- whether a form has at most four slots
 abbrev pub has_few : Form → Row → Bool

@@ -4,8 +4,8 @@
 mod choice;
 pub mod laws;
 mod row_layout;
-mod slot;
 mod sizes;
+mod slot;
 mod slots;
 
 pub use row_layout::{RowLayout, layout};

@@ -1,14 +1,14 @@
 -- The computed tests of the table and of the forms, and what follows from them.
-use Rattle.std.specs.Prelude.{◌≡◌, refl, ◌⊎◌, ℕ, ◌<◌, Bool, true, false, ◌&&◌, ◌==◌, nat_lt, List, [], ◌∷◌, ◌++◌, map, filter, if◌then◌else◌}
+use Rattle.std.specs.Prelude.{◌≡◌, refl, ℕ, ◌<◌, Bool, true, false, ◌==◌, nat_lt, List, [], ◌∷◌, ◌++◌, map, filter, if◌then◌else◌}
 use Rattle.std.specs.List.{list_all}
-use Rattle.std.proofs.Common.{inl, inr, sym, ◌∙◌, ap, subst, ltb-true}
+use Rattle.std.proofs.Common.{inl, inr, sym, ◌∙◌, subst, ltb-true}
 use Rattle.std.proofs.lemmas.Bool.{eqb-true, eq-eqb}
 use Rattle.x86_opcode.specs.declared.Opcode.{Opcode}
 use Rattle.x86_opcode.specs.declared.Opcode.TheVariants.{Integer}
 use Rattle.x86_opcode.specs.declared.IntegerOpcode.TheVariants.{VPSLLW}
 use Rattle.vex_rows.specs.declared.entry.Entry.{Entry}
 use Rattle.vex_rows.specs.declared.entry.Rule.{Rule}
-use Rattle.vex_rows.specs.declared.entry.Rule.TheVariants.{Any, Zero, One}
+use Rattle.vex_rows.specs.declared.entry.Rule.TheVariants.{Zero, One}
 use Rattle.vex_rows.specs.declared.form.Form.{Form}
 use Rattle.vex_rows.specs.declared.form.Form.TheVariants.{Nothing, VPS_71}
 use Rattle.vex_rows.specs.declared.key.Key.{Key}
@@ -53,16 +53,16 @@ pub record HasKey (entry : Entry) (key : Key) : Type 0 where
 pub from-has_key : (entry : Entry) (key : Key) → has_key entry key ≡ true → HasKey entry key
 unfolding has_key
 from-has_key entry key h =
-  let at_l = both-parts _ (allows entry.l key.l) h in
-  let at_w = both-parts _ (allows entry.w key.w) at_l.0 in
-  let at_pp = both-parts _ (pp_number entry.pp == pp_number key.pp) at_w.0 in
-  let at_map = both-parts (entry.byte == key.byte) (map_number entry.map == map_number key.map) at_pp.0 in
-  record { byte = eqb-true _ _ at_map.0; map = eqb-true _ _ at_map.1; pp = eqb-true _ _ at_pp.1; w = at_w.1; l = at_l.1 }
+    let at_l = both-parts _ (allows entry.l key.l) h in
+    let at_w = both-parts _ (allows entry.w key.w) at_l.0 in
+    let at_pp = both-parts _ (pp_number entry.pp == pp_number key.pp) at_w.0 in
+    let at_map = both-parts (entry.byte == key.byte) (map_number entry.map == map_number key.map) at_pp.0 in
+    record { byte = eqb-true _ _ at_map.0; map = eqb-true _ _ at_map.1; pp = eqb-true _ _ at_pp.1; w = at_w.1; l = at_l.1 }
 
 pub to-has_key : (entry : Entry) (key : Key) → HasKey entry key → has_key entry key ≡ true
 unfolding has_key
 to-has_key entry key h =
-  parts-both _ _ (parts-both _ _ (parts-both _ _ (parts-both _ _ (eq-eqb _ _ h.byte) (eq-eqb _ _ h.map)) (eq-eqb _ _ h.pp)) h.w) h.l
+    parts-both _ _ (parts-both _ _ (parts-both _ _ (parts-both _ _ (eq-eqb _ _ h.byte) (eq-eqb _ _ h.map)) (eq-eqb _ _ h.pp)) h.w) h.l
 
 -- two rules that allow one bit agree
 allowed-agree : (a b : Rule) (bit : Bool) → allows a bit ≡ true → allows b bit ≡ true → agree a b ≡ true
@@ -75,9 +75,9 @@ allowed-agree _ _ bit h k = refl
 -- two entries that have one key share it
 shared : (a b : Entry) (key : Key) → has_key a key ≡ true → has_key b key ≡ true → share_key a b ≡ true
 shared a b key h k =
-  let p = from-has_key a key h in
-  let q = from-has_key b key k in
-  parts-both _ _ (parts-both _ _ (parts-both _ _ (parts-both _ _
+    let p = from-has_key a key h in
+    let q = from-has_key b key k in
+    parts-both _ _ (parts-both _ _ (parts-both _ _ (parts-both _ _
     (eq-eqb _ _ (p.byte ∙ sym q.byte)) (eq-eqb _ _ (p.map ∙ sym q.map))) (eq-eqb _ _ (p.pp ∙ sym q.pp)))
     (allowed-agree a.w b.w key.w p.w q.w)) (allowed-agree a.l b.l key.l p.l q.l)
 
@@ -95,13 +95,13 @@ only_one : (entries : List Entry) → clashes entries ≡ [] → (a b : Entry) (
 only_one [] none a b key m n h k = absurd m
 only_one (entry ∷ entries) none a b key (inl e) (inl f) h k = e ∙ sym f
 only_one (entry ∷ entries) none a b key (inl e) (inr n) h k =
-  let empty = empty_map (λ other. (entry, other)) (filter (share_key entry) entries) (empty_append (map (λ other. (entry, other)) (filter (share_key entry) entries)) (clashes entries) none).0 in
-  absurd (subst (Among b) empty (among-filter (share_key entry) b entries (subst (λ c. share_key c b ≡ true) e (shared a b key h k)) n))
+    let empty = empty_map (λ other. (entry, other)) (filter (share_key entry) entries) (empty_append (map (λ other. (entry, other)) (filter (share_key entry) entries)) (clashes entries) none).0 in
+    absurd (subst (Among b) empty (among-filter (share_key entry) b entries (subst (λ c. share_key c b ≡ true) e (shared a b key h k)) n))
 only_one (entry ∷ entries) none a b key (inr m) (inl f) h k =
-  let empty = empty_map (λ other. (entry, other)) (filter (share_key entry) entries) (empty_append (map (λ other. (entry, other)) (filter (share_key entry) entries)) (clashes entries) none).0 in
-  absurd (subst (Among a) empty (among-filter (share_key entry) a entries (subst (λ c. share_key c a ≡ true) f (shared b a key k h)) m))
+    let empty = empty_map (λ other. (entry, other)) (filter (share_key entry) entries) (empty_append (map (λ other. (entry, other)) (filter (share_key entry) entries)) (clashes entries) none).0 in
+    absurd (subst (Among a) empty (among-filter (share_key entry) a entries (subst (λ c. share_key c a ≡ true) f (shared b a key k h)) m))
 only_one (entry ∷ entries) none a b key (inr m) (inr n) h k =
-  only_one entries (empty_append (map (λ other. (entry, other)) (filter (share_key entry) entries)) (clashes entries) none).1 a b key m n h k
+    only_one entries (empty_append (map (λ other. (entry, other)) (filter (share_key entry) entries)) (clashes entries) none).1 a b key m n h k
 
 -- of the entries of the table at most one has a key
 pub one_entry : (a b : Entry) (key : Key) → Among a table → Among b table → has_key a key ≡ true → has_key b key ≡ true → a ≡ b

@@ -1,5 +1,5 @@
 -- Membership in lists that are mapped, filtered and joined.
-use Rattle.std.specs.Prelude.{◌≡◌, refl, ◌⊎◌, ℕ, Bool, true, false, ◌&&◌, List, [], ◌∷◌, ◌++◌, map, filter, flat_map, find, Option, Some, None, if◌then◌else◌, cond}
+use Rattle.std.specs.Prelude.{◌≡◌, refl, ◌⊎◌, Bool, true, false, ◌&&◌, List, [], ◌∷◌, ◌++◌, map, filter, flat_map, find, Option, Some, None, cond}
 use Rattle.std.specs.List.{list_all}
 use Rattle.std.proofs.Common.{inl, inr, sym, ◌∙◌, ap, subst}
 use Rattle.vex_rows.specs.Row.{Among}
@@ -37,9 +37,9 @@ among-flat_map f x y (z ∷ xs) (inr k) m = among-append_right y (f z) (flat_map
 pub from-flat_map : {A B : Type 0} (f : A → List B) (y : B) (xs : List A) → Among y (flat_map f xs) → (x : A) × Among x xs × Among y (f x)
 from-flat_map f y [] m = absurd m
 from-flat_map f y (x ∷ xs) m = elim (among-append y (f x) (flat_map f xs) m) [
-    inl k ↦ (x, inl refl, k)
+  | inl k ↦ (x, inl refl, k)
   | inr k ↦ let r = from-flat_map f y xs k in (r.0, inr r.1, r.2)
-  ]
+]
 
 -- a filter keeps what passes its test
 kept : {A : Type 0} (x y : A) (b : Bool) (xs : List A) → Among x (cond b (y ∷ xs) xs) → ((b ≡ true) × (x ≡ y)) ⊎ Among x xs
@@ -59,9 +59,9 @@ among-filter p x (y ∷ xs) h (inr m) = later x y (p y) (filter p xs) (among-fil
 pub from-filter : {A : Type 0} (p : A → Bool) (x : A) (xs : List A) → Among x (filter p xs) → (p x ≡ true) × Among x xs
 from-filter p x [] m = absurd m
 from-filter p x (y ∷ xs) m = elim (kept x y (p y) (filter p xs) m) [
-    inl k ↦ (ap p k.1 ∙ k.0, inl k.1)
+  | inl k ↦ (ap p k.1 ∙ k.0, inl k.1)
   | inr k ↦ let r = from-filter p x xs k in (r.0, inr r.1)
-  ]
+]
 
 -- what a search finds, stands in the list and passes the test
 pub found-find : {A : Type 0} (p : A → Bool) (xs : List A) (x : A) → find p xs ≡ Some x → Among x xs × (p x ≡ true)

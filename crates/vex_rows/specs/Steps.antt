@@ -101,5 +101,10 @@ steps G_ExyL_V_xyLmm = addressed [] [] [] false
 -- the steps that the code keeps as slices
 abbrev pub steps_seen : Steps → FormSteps
 steps_seen s = record {
-  first = s.first.now; modrm = s.modrm; second = s.second.now; address = s.address; third = s.third.now; imm = s.imm;
+  first = s.first.now;
+  modrm = s.modrm;
+  second = s.second.now;
+  address = s.address;
+  third = s.third.now;
+  imm = s.imm;
 }

@@ -1,15 +1,13 @@
 -- What the forms and the table must be for the laws of spellings: tests that are computed.
-use Rattle.std.specs.Prelude.{ℕ, Bool, true, false, not, ◌&&◌, ◌||◌, nat_lt, ◌==◌, List, [], ◌∷◌, ◌++◌, map, filter, if◌then◌else◌}
+use Rattle.std.specs.Prelude.{Bool, true, false, not, ◌&&◌, ◌||◌, ◌==◌, List, [], ◌∷◌, ◌++◌, map, filter, if◌then◌else◌}
 use Rattle.std.specs.List.{list_all, list_any}
 use Rattle.vex_rows.specs.declared.entry.Entry.{Entry}
 use Rattle.vex_rows.specs.declared.entry.Rule.{Rule}
-use Rattle.vex_rows.specs.declared.entry.Rule.TheVariants.{Any, Zero, One}
-use Rattle.vex_rows.specs.declared.form.Form.{Form}
+use Rattle.vex_rows.specs.declared.entry.Rule.TheVariants.{Zero, One}
 use Rattle.vex_rows.specs.Rules.{map_number, pp_number}
 use Rattle.vex_rows.specs.declared.steps.Check.{Check}
 use Rattle.vex_rows.specs.declared.steps.Check.TheVariants.{V0, L0, Reg, Mem, Group, VifMem}
 use Rattle.vex_rows.specs.Steps.{FormSteps}
-use Rattle.vex_rows.specs.Groups.{groups}
 
 -- whether two rules allow one bit
 abbrev pub agree : Rule → Rule → Bool
@@ -20,7 +18,7 @@ agree _ _ = true
 -- whether two entries have a key in common
 abbrev pub share_key : Entry → Entry → Bool
 share_key a b =
-  a.byte == b.byte && map_number a.map == map_number b.map && pp_number a.pp == pp_number b.pp && agree a.w b.w && agree a.l b.l
+    a.byte == b.byte && map_number a.map == map_number b.map && pp_number a.pp == pp_number b.pp && agree a.w b.w && agree a.l b.l
 
 -- the pairs of entries that have a key in common
 abbrev pub clashes : List Entry → List (Entry × Entry)
@@ -59,6 +57,6 @@ is_none _ = false
 -- register
 abbrev pub is_orderly : FormSteps → Bool
 is_orderly form =
-  list_all is_prefix_check form.first && list_all is_modrm_check form.second && list_all is_late_check form.third
-  && (if form.modrm then form.address || list_any is_register_check form.second
-      else is_none form.second && is_none form.third && not form.address)
+    list_all is_prefix_check form.first && list_all is_modrm_check form.second && list_all is_late_check form.third
+    && (if form.modrm then form.address || list_any is_register_check form.second
+    else is_none form.second && is_none form.third && not form.address)

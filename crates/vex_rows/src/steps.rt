@@ -68,7 +68,12 @@ fn direct(first: &'static [Check], second: &'static [Check], imm: bool) -> Steps
 }
 
 /// A form that reads an address.
-fn addressed(first: &'static [Check], second: &'static [Check], third: &'static [Check], imm: bool) -> Steps
+fn addressed(
+    first: &'static [Check],
+    second: &'static [Check],
+    third: &'static [Check],
+    imm: bool,
+) -> Steps
     ensures { steps_seen result ≡ addressed first.now second.now third.now imm }
 {
     Steps {
@@ -88,20 +93,86 @@ pub fn steps_of(form: Form) -> Steps
 {
     match form {
         Form::Nothing => alone(&[Check::V0]),
-        Form::VPS_71 | Form::VPS_72 | Form::VPS_73 => direct(&[], &[Check::Reg, Check::Group], true),
-        Form::VMOVSS_10 | Form::VMOVSD_10 | Form::VMOVSS_11 | Form::VMOVSD_11 => addressed(&[], &[], &[Check::VifMem], false),
-        Form::VMOVLPS_12 | Form::VMOVHPS_16 | Form::G_V_E_ymm | Form::G_V_ymm_E_xmm | Form::G_V_E_xmm | Form::G_V_Ed_xmm | Form::G_V_Eq_xmm | Form::G_V_xmm_Ed | Form::G_V_xmm_Eq | Form::G_V_E | Form::G_E_V | Form::G_ExyL_V_xyLmm => addressed(&[], &[], &[], false),
-        Form::Ev_G_xmm_imm8 | Form::E_G_xmm_imm8 | Form::E_xmm_G_ymm_imm8 | Form::G_E_xyLmm_imm8 | Form::G_E_ymm_imm8 => addressed(&[Check::V0], &[], &[], true),
-        Form::G_xmm_Ed | Form::G_xmm_Eq | Form::Ed_G_xmm | Form::Eq_G_xmm | Form::VCVT_Gd_Ed_xmm | Form::VCVT_Gd_Eq_xmm | Form::VCVT_Gq_Ed_xmm | Form::VCVT_Gq_Eq_xmm | Form::G_E_xmm | Form::G_xmm_E_xmm | Form::G_xmm_E_ymm | Form::G_E_ymm => addressed(&[Check::V0], &[], &[], false),
-        Form::G_ymm_E_ymm | Form::G_ymm_E_xmm | Form::G_Lmm_E_xmm => addressed(&[Check::V0], &[], &[], false),
-        Form::M_G_xmm | Form::M_G_xyLmm | Form::M_G_ymm | Form::G_M_xmm | Form::G_M_ymm | Form::G_ymm_M_xmm => addressed(&[Check::V0], &[Check::Mem], &[], false),
-        Form::Ud_G_xyLmm | Form::Gd_U_xmm | Form::Gd_U_ymm => addressed(&[Check::V0], &[], &[Check::Reg], false),
+        Form::VPS_71 | Form::VPS_72 | Form::VPS_73 => direct(
+            &[],
+            &[Check::Reg, Check::Group],
+            true,
+        ),
+        Form::VMOVSS_10 | Form::VMOVSD_10 | Form::VMOVSS_11 | Form::VMOVSD_11 => addressed(
+            &[],
+            &[],
+            &[Check::VifMem],
+            false,
+        ),
+        Form::VMOVLPS_12
+        | Form::VMOVHPS_16
+        | Form::G_V_E_ymm
+        | Form::G_V_ymm_E_xmm
+        | Form::G_V_E_xmm
+        | Form::G_V_Ed_xmm
+        | Form::G_V_Eq_xmm
+        | Form::G_V_xmm_Ed
+        | Form::G_V_xmm_Eq
+        | Form::G_V_E
+        | Form::G_E_V
+        | Form::G_ExyL_V_xyLmm => addressed(&[], &[], &[], false),
+        Form::Ev_G_xmm_imm8
+        | Form::E_G_xmm_imm8
+        | Form::E_xmm_G_ymm_imm8
+        | Form::G_E_xyLmm_imm8
+        | Form::G_E_ymm_imm8 => addressed(&[Check::V0], &[], &[], true),
+        Form::G_xmm_Ed
+        | Form::G_xmm_Eq
+        | Form::Ed_G_xmm
+        | Form::Eq_G_xmm
+        | Form::VCVT_Gd_Ed_xmm
+        | Form::VCVT_Gd_Eq_xmm
+        | Form::VCVT_Gq_Ed_xmm
+        | Form::VCVT_Gq_Eq_xmm
+        | Form::G_E_xmm
+        | Form::G_xmm_E_xmm
+        | Form::G_xmm_E_ymm
+        | Form::G_E_ymm => addressed(&[Check::V0], &[], &[], false),
+        Form::G_ymm_E_ymm | Form::G_ymm_E_xmm | Form::G_Lmm_E_xmm => addressed(
+            &[Check::V0],
+            &[],
+            &[],
+            false,
+        ),
+        Form::M_G_xmm
+        | Form::M_G_xyLmm
+        | Form::M_G_ymm
+        | Form::G_M_xmm
+        | Form::G_M_ymm
+        | Form::G_ymm_M_xmm => addressed(&[Check::V0], &[Check::Mem], &[], false),
+        Form::Ud_G_xyLmm | Form::Gd_U_xmm | Form::Gd_U_ymm => addressed(
+            &[Check::V0],
+            &[],
+            &[Check::Reg],
+            false,
+        ),
         Form::Ud_G_xmm_imm8 => addressed(&[Check::V0], &[], &[Check::Reg], true),
-        Form::G_U_xmm_vmaskmovdqu | Form::G_E_xyLmm | Form::E_G_xyLmm => direct(&[Check::V0], &[Check::Reg], false),
+        Form::G_U_xmm_vmaskmovdqu | Form::G_E_xyLmm | Form::E_G_xyLmm => direct(
+            &[Check::V0],
+            &[Check::Reg],
+            false,
+        ),
         Form::G_E_xmm_imm8 => addressed(&[Check::V0, Check::L0], &[], &[], true),
         Form::G_V_E_xyLmm => direct(&[], &[Check::Reg], false),
-        Form::G_V_M_xmm | Form::G_V_M_ymm | Form::M_V_G_xmm | Form::M_V_G_ymm => addressed(&[], &[Check::Mem], &[], false),
-        Form::G_V_E_xyLmm_imm8 | Form::G_V_E_xmm_imm8 | Form::G_V_E_ymm_imm8 | Form::G_ymm_V_ymm_E_xmm_imm8 | Form::G_V_E_xmm_xmm4 | Form::G_V_E_ymm_ymm4 | Form::G_V_xmm_Ev_imm8 | Form::G_E_Ib => addressed(&[], &[], &[], true),
+        Form::G_V_M_xmm | Form::G_V_M_ymm | Form::M_V_G_xmm | Form::M_V_G_ymm => addressed(
+            &[],
+            &[Check::Mem],
+            &[],
+            false,
+        ),
+        Form::G_V_E_xyLmm_imm8
+        | Form::G_V_E_xmm_imm8
+        | Form::G_V_E_ymm_imm8
+        | Form::G_ymm_V_ymm_E_xmm_imm8
+        | Form::G_V_E_xmm_xmm4
+        | Form::G_V_E_ymm_ymm4
+        | Form::G_V_xmm_Ev_imm8
+        | Form::G_E_Ib => addressed(&[], &[], &[], true),
         Form::BMI1_F3 => addressed(&[], &[Check::Group], &[], false),
         Form::MXCSR => addressed(&[], &[Check::Group, Check::Mem], &[], false),
     }

@@ -13,7 +13,13 @@ fn keys_have_their_entries(rt: HostRuntime) -> Result<(), Fail> {
         (Map::Map0F38, Pp::Plain, 0x29, None),
     ] {
         for (w, l) in [(false, false), (false, true), (true, false), (true, true)] {
-            let key = Key { map, pp, byte, w, l };
+            let key = Key {
+                map,
+                pp,
+                byte,
+                w,
+                l,
+            };
             let found = lookup(&key).map(|entry| entry.opcode);
             assert_eq!(rt; found, opcode, "{key:?}");
         }
@@ -86,7 +92,10 @@ fn forms_have_the_groups_of_the_manual(rt: HostRuntime) -> Result<(), Fail> {
         (Form::G_V_E, false, 1, None),
     ] {
         let groups = groups_of(form, l);
-        let found = groups.iter().find(|group| group.0 == reg).map(|group| group.1);
+        let found = groups
+            .iter()
+            .find(|group| group.0 == reg)
+            .map(|group| group.1);
         assert_eq!(rt; found, opcode, "{form:?} {reg}");
     }
     Ok(())
