@@ -1,11 +1,10 @@
 -- The row of an entry that a caller chooses, and what the layout of a row shows.
-use Rattle.std.specs.Prelude.{◌≡◌, ℕ, ◌≤◌, Bool, not, ◌&&◌, ◌||◌, Option, Some, None, if◌then◌else◌}
-use Rattle.arrayvec.specs.ArrayVec.{ArrayVec}
+use Rattle.std.specs.Prelude.{◌≡◌, ℕ, ◌≤◌, Bool, not, ◌||◌, Option, Some, None, if◌then◌else◌}
 use Rattle.x86_operand.specs.Kind.{Kind, WithoutModRM, InRegister, InMemory}
 use Rattle.vex_rows.specs.declared.entry.Entry.{Entry}
 use Rattle.vex_rows.specs.declared.form.Form.{Form}
 use Rattle.vex_rows.specs.Steps.{steps}
-use Rattle.vex_rows.specs.Row.{Row, row_at, opcode_of, has_groups, has_imm, exists}
+use Rattle.vex_rows.specs.Row.{Row, row_at, opcode_of, has_groups, has_imm}
 use Rattle.vex_forms.specs.declared.choice.Choice.{Choice}
 use Rattle.vex_forms.specs.declared.row_layout.RowLayout.{RowLayout}
 use Rattle.vex_forms.specs.Slots.{slots, index_bank, size_of, v_rule}
@@ -21,7 +20,7 @@ group_for form group = if has_groups form then Some group else None
 -- the row of an entry at a W, an L, a kind of the operand E and a reg field
 abbrev pub row_for : Entry → Bool → Bool → Bool → ℕ → Row
 row_for entry w l memory group =
-  row_at entry w (if l then 1 else 0) (kind_for entry.form memory) (group_for entry.form group)
+    row_at entry w (if l then 1 else 0) (kind_for entry.form memory) (group_for entry.form group)
 
 -- the row that the code has chosen
 abbrev pub chosen : Choice → Row

@@ -2,3 +2,4 @@ pub mod Slots
 pub mod Gives
 pub mod Tests
 pub mod Layout
+pub mod Laws

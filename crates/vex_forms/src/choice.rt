@@ -30,7 +30,10 @@ pub struct Choice {
 fn has_groups(form: Form) -> bool
     ensures { result ≡ has_groups form }
 {
-    steps_of(form).second.iter().any(|check| is_group_check(*check))
+    steps_of(form)
+        .second
+        .iter()
+        .any(|check| is_group_check(*check))
 }
 
 /// Whether a check is that of the reg field.
@@ -85,7 +88,11 @@ impl Choice {
             w,
             l,
             memory,
-            group: if has_groups(entry.form) { Some(group) } else { None },
+            group: if has_groups(entry.form) {
+                Some(group)
+            } else {
+                None
+            },
         }
     }
 

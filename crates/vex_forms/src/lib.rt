@@ -2,10 +2,14 @@
 #![tactic(auto)]
 
 mod choice;
+pub mod laws;
 mod row_layout;
-mod slot;
 mod sizes;
+mod slot;
 mod slots;
 
 pub use row_layout::{RowLayout, layout};
 pub use slot::{Slot, VvvvRule};
+
+#[cfg(test)]
+mod tests;

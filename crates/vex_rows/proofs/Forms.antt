@@ -9,7 +9,7 @@ use Rattle.x86_opcode.specs.declared.Opcode.TheVariants.{Integer}
 use Rattle.x86_opcode.specs.declared.IntegerOpcode.TheVariants.{VPSLLW}
 use Rattle.vex_rows.specs.declared.entry.Entry.{Entry}
 use Rattle.vex_rows.specs.declared.entry.Rule.{Rule}
-use Rattle.vex_rows.specs.declared.entry.Rule.TheVariants.{Any, Zero, One}
+use Rattle.vex_rows.specs.declared.entry.Rule.TheVariants.{Zero, One}
 use Rattle.vex_rows.specs.declared.form.Form.{Form}
 use Rattle.vex_rows.specs.declared.form.Form.TheVariants.{Nothing, VPS_71}
 use Rattle.vex_rows.specs.declared.key.Key.{Key}

@@ -13,14 +13,22 @@ pub fn groups_of(form: Form, l: bool) -> &'static [(u8, Opcode)]
     ensures { result.now ≡ groups form (if l then 1 else 0) }
 {
     match form {
-        Form::VPS_71 if l => &[(2, Opcode::VPSRLW), (4, Opcode::VPSRAW), (6, Opcode::VPSLLW)],
+        Form::VPS_71 if l => &[
+            (2, Opcode::VPSRLW),
+            (4, Opcode::VPSRAW),
+            (6, Opcode::VPSLLW),
+        ],
         Form::VPS_71 => &[
             (2, Opcode::VPSRLW),
             (4, Opcode::VPSRAW),
             (6, Opcode::VPSLLW),
             (1, Opcode::VPSLLW),
         ],
-        Form::VPS_72 => &[(2, Opcode::VPSRLD), (4, Opcode::VPSRAD), (6, Opcode::VPSLLD)],
+        Form::VPS_72 => &[
+            (2, Opcode::VPSRLD),
+            (4, Opcode::VPSRAD),
+            (6, Opcode::VPSLLD),
+        ],
         Form::VPS_73 => &[
             (2, Opcode::VPSRLQ),
             (3, Opcode::VPSRLDQ),
