@@ -5,3 +5,4 @@ pub mod PlaceBytes
 pub mod Shortest
 pub mod Examples
 pub mod Spelling
+pub mod Encodable

@@ -3,3 +3,5 @@ pub mod Place
 pub mod Shortest
 pub mod Reading
 pub mod Laws
+pub mod Spells
+pub mod Written
