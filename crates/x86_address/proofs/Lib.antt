@@ -6,3 +6,5 @@ pub mod Shortest
 pub mod Examples
 pub mod Spelling
 pub mod Encodable
+pub mod Giving
+pub mod Taken

@@ -5,3 +5,4 @@ pub mod Reading
 pub mod Laws
 pub mod Spells
 pub mod Written
+pub mod Reads

@@ -11,7 +11,7 @@ use arrayvec::ArrayVec;
 use x86_operand::{Address, Index, RegSpec, RegisterBank};
 
 /// What spells an address: the prefix bits X and B, and the bytes from ModRM on.
-#[derive(Drop)]
+#[derive(PartialEq, Eq, Debug, Drop)]
 pub struct AddressBytes {
     /// The bit X of the prefix: the top bit of the index.
     pub x: bool,
