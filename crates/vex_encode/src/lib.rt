@@ -6,6 +6,7 @@ mod decode;
 mod form;
 mod instruction;
 mod operands;
+mod permit;
 mod prefix;
 mod spelling;
 mod walk;
