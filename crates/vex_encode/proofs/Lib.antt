@@ -5,6 +5,7 @@ pub mod Canon
 pub mod Refusals
 pub mod Direct
 pub mod Fit
+pub mod FirstSlot
 pub mod Mapped
 pub mod Chosen
 pub mod MeaningGiven

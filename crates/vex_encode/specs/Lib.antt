@@ -6,3 +6,4 @@ pub mod Walk
 pub mod Operands
 pub mod Facts
 pub mod Decodes
+pub mod Assembly

@@ -8,6 +8,7 @@ mod instruction;
 mod operands;
 mod permit;
 mod prefix;
+mod slot_kind;
 mod spelling;
 mod walk;
 
