@@ -1,13 +1,14 @@
-use Rattle.std.specs.Prelude.{◌≡◌, ◌/◌, ◌%◌, ◌==◌, ℕ, Bool, Option, Some, None}
+use Rattle.std.specs.Prelude.{◌≡◌, ◌/◌, ◌%◌, ◌==◌, ◌&&◌, ℕ, Bool, false, Some, None, unwrap_or, if◌then◌else◌}
 use Rattle.x86_operand.specs.Meaning.{Meaning}
-use Rattle.vex_rows.specs.Row.{Row}
+use Rattle.vex_rows.specs.declared.entry.Entry.{Entry}
+use Rattle.vex_rows.specs.declared.key.Prefix.{Prefix}
+use Rattle.vex_forms.specs.declared.row_layout.RowLayout.{RowLayout}
 use Rattle.vex_forms.specs.declared.slot.Slot.{Slot}
 use Rattle.vex_forms.specs.Slots.{names_g, names_v, names_e, names_imm}
-use Rattle.vex_decode.specs.Fields.{fields_of}
-use Rattle.vex_decode.specs.Spelling.{Syntax}
+use Rattle.vex_encode.specs.declared.operands.Numbers.{Numbers}
 use Rattle.vex_encode.specs.declared.slot_kind.SlotKind.{SlotKind}
 use Rattle.vex_encode.specs.declared.slot_kind.SlotKind.TheVariants as kind
-use Rattle.vex_encode.specs.Form.{place_seen}
+use Rattle.vex_encode.specs.Standard.{operand_at, number_of, imm_of}
 
 -- the slots of a kind
 abbrev pub names : SlotKind → Slot → Bool
@@ -15,3 +16,32 @@ names kind.G slot = names_g slot
 names kind.V slot = names_v slot
 names kind.E slot = names_e slot
 names kind.Immediate slot = names_imm slot
+
+-- the numbers that the operands at the slots of a row have
+abbrev pub g_of : RowLayout → Meaning → ℕ
+g_of layout m = number_of (operand_at names_g layout.slots.items m.operands)
+
+abbrev pub v_of : RowLayout → Meaning → ℕ
+v_of layout m = number_of (operand_at names_v layout.slots.items m.operands)
+
+abbrev pub e_of : RowLayout → Meaning → ℕ
+e_of layout m = number_of (operand_at names_e layout.slots.items m.operands)
+
+abbrev pub immediate_of : RowLayout → Meaning → ℕ
+immediate_of layout m = imm_of (operand_at names_imm layout.slots.items m.operands)
+
+-- the prefix and the numbers that are put together for a meaning, by the layout of a row of registers
+pub record Assembles (entry : Entry) (w l : Bool) (layout : RowLayout) (m : Meaning) (prefix : Prefix) (numbers : Numbers) : Type 0 where
+  pub map : prefix.map ≡ entry.map
+  pub pp : prefix.pp ≡ entry.pp
+  pub w_is : prefix.w ≡ w
+  pub l_is : prefix.l ≡ l
+  pub r : prefix.r ≡ ((g_of layout m / 8) % 2 == 1)
+  pub x : prefix.x ≡ false
+  pub b : prefix.b ≡ (layout.has_modrm && ((e_of layout m / 8) % 2 == 1))
+  pub vvvv : prefix.vvvv ≡ v_of layout m % 16
+  pub same_r : numbers.r ≡ prefix.r
+  pub same_vvvv : numbers.vvvv ≡ prefix.vvvv
+  pub reg : numbers.reg ≡ unwrap_or layout.group (g_of layout m % 8)
+  pub register : numbers.register ≡ (if layout.has_modrm then Some (e_of layout m % 16) else None)
+  pub imm : numbers.imm ≡ immediate_of layout m

@@ -1,6 +1,7 @@
 //! The shortest spelling of an instruction.
 #![tactic(auto)]
 
+mod assembly;
 mod bytes;
 mod decode;
 mod form;
