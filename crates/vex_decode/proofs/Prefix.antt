@@ -62,7 +62,7 @@ pub is_one-bit : (b : Bool) → (bit b == 1) ≡ b
 is_one-bit true = refl
 is_one-bit false = refl
 
-bit-is_one : (n : ℕ) → n < 2 → bit (n == 1) ≡ n
+pub bit-is_one : (n : ℕ) → n < 2 → bit (n == 1) ≡ n
 bit-is_one n h = grind (arith, nat_tests)
 
 module _ (t v l pp : ℕ) (ht : t ≤ 1) (hv : v ≤ 15) (hl : l ≤ 1) (hp : pp < 4) where

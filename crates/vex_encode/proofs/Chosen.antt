@@ -41,7 +41,7 @@ kind_chosen true None (inr (inr e)) = absurd e
 kind_chosen false (Some rm) (inl e) = cc
 kind_chosen false (Some rm) (inr e) = absurd e
 
-l_seen : (l : Bool) → (if l then 1 else 0) ≡ bit l
+pub l_seen : (l : Bool) → (if l then 1 else 0) ≡ bit l
 l_seen true = refl
 l_seen false = refl
 

@@ -6,6 +6,7 @@ pub mod Refusals
 pub mod Direct
 pub mod Fit
 pub mod FirstSlot
+pub mod Assembled
 pub mod Mapped
 pub mod Chosen
 pub mod MeaningGiven

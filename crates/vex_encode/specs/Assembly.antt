@@ -1,5 +1,6 @@
-use Rattle.std.specs.Prelude.{◌≡◌, ◌/◌, ◌%◌, ◌==◌, ◌&&◌, ℕ, Bool, false, Some, None, unwrap_or, if◌then◌else◌}
+use Rattle.std.specs.Prelude.{◌≡◌, ◌/◌, ◌%◌, ◌==◌, ◌&&◌, ℕ, Bool, false, Option, Some, None, unwrap_or, if◌then◌else◌}
 use Rattle.x86_operand.specs.Meaning.{Meaning}
+use Rattle.x86_address.specs.Place.{Place, NoPlace, Direct}
 use Rattle.vex_rows.specs.declared.entry.Entry.{Entry}
 use Rattle.vex_rows.specs.declared.key.Prefix.{Prefix}
 use Rattle.vex_forms.specs.declared.row_layout.RowLayout.{RowLayout}
@@ -16,6 +17,11 @@ names kind.G slot = names_g slot
 names kind.V slot = names_v slot
 names kind.E slot = names_e slot
 names kind.Immediate slot = names_imm slot
+
+-- the place of a register's number, or of no operand
+abbrev pub place_for : Option ℕ → Place
+place_for None = NoPlace
+place_for (Some n) = Direct (n % 8)
 
 -- the numbers that the operands at the slots of a row have
 abbrev pub g_of : RowLayout → Meaning → ℕ
