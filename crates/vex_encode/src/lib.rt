@@ -10,6 +10,7 @@ mod operands;
 mod permit;
 mod prefix;
 mod slot_kind;
+mod spell;
 mod spelling;
 mod walk;
 
