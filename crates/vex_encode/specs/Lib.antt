@@ -7,3 +7,5 @@ pub mod Operands
 pub mod Facts
 pub mod Decodes
 pub mod Assembly
+pub mod Encode
+pub mod Recode

@@ -4,14 +4,17 @@
 mod assembly;
 mod bytes;
 mod decode;
+mod encode;
 mod form;
 mod instruction;
 mod operands;
 mod permit;
 mod prefix;
+mod recoder;
 mod slot_kind;
 mod spell;
 mod spelling;
 mod walk;
 
+pub use recoder::recode;
 pub use spelling::Spelling;

@@ -1,0 +1,21 @@
+use Rattle.std.specs.Prelude.{◌≡◌, ℕ, Bool, true, false, List, take, Option, Some, None, Result, Ok, Err}
+use Rattle.x86_operand.specs.declared.error.DecodeError.{DecodeError}
+use Rattle.x86_operand.specs.Meaning.{Decoded}
+use Rattle.x86_permit.specs.Permission.{permits}
+use Rattle.vex_decode.specs.Spelling.{Spells}
+use Rattle.vex_decode.specs.Blocked.{blocked}
+use Rattle.vex_encode.specs.Canon.{canon}
+
+-- an instruction and its canonical bytes, for the spelling that begins some bytes
+pub record RecodesAs (settings : List Bool) (bytes : List ℕ) (decoded : Decoded) (spelling : List ℕ) : Type 0 where
+  pub begun : blocked settings bytes ≡ None
+  pub spelled : Spells (take decoded.len bytes) decoded.meaning
+  pub permitted : permits settings false decoded.meaning.opcode ≡ true
+  pub canonical : canon decoded.meaning ≡ Some spelling
+  pub same : Spells spelling decoded.meaning
+  pub accepted : blocked settings spelling ≡ None
+
+-- what a recoding answers: that, or the error that blocks the bytes
+abbrev pub Recodes : List Bool → List ℕ → Result (Decoded × List ℕ) DecodeError → Type 0
+Recodes settings bytes (Ok recoded) = RecodesAs settings bytes recoded.0 recoded.1
+Recodes settings bytes (Err error) = (n : ℕ) × (blocked settings bytes ≡ Some (error, n))

@@ -1,0 +1,58 @@
+//! Decoding the instruction at the front of a slice, and its canonical bytes.
+
+ghost use Rattle.std.specs.Prelude.{◌≡◌, ◌↔◌, ℕ, IsOk, IfOk, IfErr, Some, None, true, false, take};
+ghost use Rattle.x86_permit.specs.Permission.{permits};
+ghost use Rattle.vex_decode.specs.Spelling.{Spells};
+ghost use Rattle.vex_decode.specs.Blocked.{blocked};
+ghost use Rattle.vex_encode.specs.Canon.{canon};
+ghost use Rattle.vex_encode.specs.Recode.{Recodes};
+
+use crate::decode::decode;
+use crate::encode::canonical;
+use crate::permit::is_permitted;
+use crate::spelling::Spelling;
+use x86_operand::{DecodeError, Instruction};
+use x86_settings::InstDecoder;
+
+/// The instruction and its canonical bytes, with all that is known of them at once.
+fn recode_all(
+    decoder: &InstDecoder,
+    bytes: &[u8],
+) -> Result<(Instruction, Spelling), DecodeError>
+    ensures { Recodes decoder.now bytes.now result }
+{
+    let instruction = decode(bytes)?;
+    if !is_permitted(decoder, instruction.opcode()) {
+        return Err(DecodeError::InvalidOpcode);
+    }
+    match canonical(&instruction) {
+        Some(spelling) => Ok((instruction, spelling)),
+        None => unreachable!(),
+    }
+}
+
+/// Decodes the instruction at the front of the bytes, and answers it with the canonical bytes of its meaning. Later
+/// bytes play no part.
+///
+/// The error is that of the first step that fails: `Outside` where the first byte is neither C4 nor C5,
+/// `ExhaustedInput` where a byte that is read isn't there, `InvalidOpcode` where the map number or the look-up or a
+/// group refuses, or the settings do, and `InvalidOperand` where vvvv, L or the kind of operand does.
+pub fn recode(
+    decoder: &InstDecoder,
+    bytes: &[u8],
+) -> Result<(Instruction, Spelling), DecodeError>
+    // Exactly where a permitted spelling begins the bytes.
+    ensures begun { IsOk result ↔ (blocked decoder.now bytes.now ≡ None) }
+    ensures spelled { IfOk result (λ recoded. Spells (take recoded.0.len bytes.now) recoded.0.meaning) }
+    ensures permitted { IfOk result (λ recoded. permits decoder.now false recoded.0.meaning.opcode ≡ true) }
+
+    // The canonical bytes spell the same meaning, and are accepted under the same settings.
+    ensures canonical { IfOk result (λ recoded. canon recoded.0.meaning ≡ Some recoded.1) }
+    ensures same { IfOk result (λ recoded. Spells recoded.1 recoded.0.meaning) }
+    ensures accepted { IfOk result (λ recoded. blocked decoder.now recoded.1 ≡ None) }
+
+    // The error is the one that blocks the bytes.
+    ensures refused { IfErr result (λ error. (n : ℕ) × (blocked decoder.now bytes.now ≡ Some (error, n))) }
+{
+    recode_all(decoder, bytes)
+}
