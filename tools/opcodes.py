@@ -4,7 +4,7 @@
 These are, in src/: the enum of each part of `Opcode` (the end of lib.rt), a file for each part with
 its constants, names and conditions, and the list of all opcodes (list.rt); in specs/: the numbers,
 the names, the conditions and the VEX opcodes; in proofs/: the lemmas that go opcode by opcode.
-Run it at the top of the repository, and then `rt fmt` in crates/x86_opcode.
+Run it at the top of the repository, and then `rt tidy` in crates/x86_opcode.
 """
 from pathlib import Path
 
@@ -82,6 +82,9 @@ def listing(parts, count):
         f"// The list of all opcodes, {NOTE}.",
         "use crate::Opcode;",
         "",
+        "// The number of the first opcode of each part.",
+        *(f"pub(crate) const FIRST_{part.name.upper()}: u16 = {part.first};" for part in parts),
+        "",
         "/// All opcodes, in the order of their numbers.",
         f"pub(crate) static ALL: [Opcode; {count}] = [",
         "    Opcode::Invalid,",
@@ -107,8 +110,9 @@ def part_file(part):
     text = [f"// The constants, the names and the conditions of a part, {NOTE}."]
     text += ["ghost use Rattle.std.specs.Prelude.{◌≡◌, Some};"]
     if conditional:
-        text += [f"ghost use Rattle.x86_opcode.specs.Condition.{{{part.low}_condition}};"]
-    text += [f"ghost use Rattle.x86_opcode.specs.Name.{{{part.low}_name}};", ""]
+        text += ["ghost use Rattle.x86_opcode.specs.Condition.{opcode_condition};"]
+    text += ["ghost use Rattle.x86_opcode.specs.Name.{opcode_name};"]
+    text += [f"ghost use Rattle.x86_opcode.specs.declared.Opcode.TheVariants.{{{part.name}}};", ""]
     text += ["use crate::Condition;"] if conditional else []
     text += [f"use crate::{{{part.enum}, Opcode}};", "use std::fmt;"]
     text += ["", f"/// {part.doc}", "impl Opcode {"]
@@ -116,20 +120,20 @@ def part_file(part):
         text += [f"    pub const {name}: Opcode = Opcode::{part.name}({part.enum}::{name});"]
     text += ["}", "", f"impl {part.enum} {{"]
     text += ["    /// The opcode's name, spelled as its variant."]
-    text += [f"    #[tactic(auto, unfolding(crate::specs::Name::{part.low}_name))]"]
+    text += ["    #[tactic(auto, unfolding(crate::specs::Name::opcode_name))]"]
     text += ["    pub fn name(&self) -> &'static str"]
-    text += [f"        ensures {{ result.now ≡ {part.low}_name self.now }}"]
+    text += [f"        ensures {{ result.now ≡ opcode_name ({part.name} self.now) }}"]
     text += ["    {", "        match self {"]
     text += [f'            {part.enum}::{name} => "{name}",' for name in part.names()]
     text += ["        }", "    }"]
     if conditional:
         text += ["", "    /// What the settings must say to permit the opcode without the EVEX mark."]
-        text += [f"    #[tactic(auto, unfolding(crate::specs::Condition::{part.low}_condition))]"]
+        text += ["    #[tactic(auto, unfolding(crate::specs::Condition::opcode_condition))]"]
         text += ["    pub fn condition(self) -> Condition"]
-        text += [f"        ensures {{ result ≡ {part.low}_condition self }}"]
+        text += [f"        ensures {{ result ≡ opcode_condition ({part.name} self) }}"]
         text += ["    {", "        match self {", *condition_arms(part), "        }", "    }"]
     text += ["}", "", f"impl fmt::Debug for {part.enum} {{"]
-    text += [f"    ghost debug_output = {{ λ opcode. Some ({part.low}_name opcode) }};", ""]
+    text += [f"    ghost debug_output = {{ λ opcode. Some (opcode_name ({part.name} opcode)) }};", ""]
     text += ["    fn fmt<W: fmt::Write>(&self, f: &mut fmt::Formatter<W>) -> fmt::Result {"]
     return text + ["        f.write_str(self.name())", "    }", "}"]
 
@@ -169,7 +173,7 @@ def names(parts):
     text += ["use Rattle.std.specs.Prelude.{ℕ, List, codes}", *declared(parts)]
     for part in parts:
         text += ["", f"-- the name of an opcode: {part.lower_doc}"]
-        text += [f"unfoldable pub {part.low}_name : {part.enum} → List ℕ"]
+        text += [f"abbrev pub {part.low}_name : {part.enum} → List ℕ"]
         text += [f'{part.low}_name {part.low}.{name} = codes "{name}"' for name in part.names()]
     text += ["", "-- the name of an opcode, spelled as its constant"]
     text += ["unfoldable pub opcode_name : Opcode → List ℕ"]
@@ -185,7 +189,7 @@ def conditions(parts):
     for part in parts:
         groups, rest = part.conditions()
         text += ["", f"-- the condition of an opcode: {part.lower_doc}"]
-        text += [f"unfoldable pub {part.low}_condition : {part.enum} → Condition"]
+        text += [f"abbrev pub {part.low}_condition : {part.enum} → Condition"]
         for condition, names in groups:
             text += [f"{part.low}_condition {part.low}.{name} = on.{condition}" for name in names]
         if rest:

@@ -14,7 +14,7 @@ use Rattle.x86_opcode.specs.declared.condition.Condition.{Condition}
 use Rattle.x86_opcode.specs.declared.condition.Condition.TheVariants as on
 
 -- the condition of an opcode: instructions that have no VEX or EVEX prefix
-unfoldable pub legacy_condition : LegacyOpcode → Condition
+abbrev pub legacy_condition : LegacyOpcode → Condition
 legacy_condition legacy.FEMMS = on.ThreeDNow
 legacy_condition legacy.PAVGUSB = on.ThreeDNow
 legacy_condition legacy.PFADD = on.ThreeDNow
@@ -187,7 +187,7 @@ legacy_condition legacy.INVVPID = on.Vmx
 legacy_condition legacy.HRESET = on.Hreset
 
 -- the condition of an opcode: VEX instructions on integers, on general registers, and on no operand
-unfoldable pub integer_condition : IntegerOpcode → Condition
+abbrev pub integer_condition : IntegerOpcode → Condition
 integer_condition integer.ANDN = on.Bmi1
 integer_condition integer.BEXTR = on.Bmi1
 integer_condition integer.BLSI = on.Bmi1
@@ -210,17 +210,17 @@ integer_condition integer.VAESKEYGENASSIST = on.AvxAndAesni
 integer_condition _ = on.Avx
 
 -- the condition of an opcode: VEX instructions on packed and scalar floats
-unfoldable pub float_condition : FloatOpcode → Condition
+abbrev pub float_condition : FloatOpcode → Condition
 float_condition float.VCVTPH2PS = on.AvxAndF16c
 float_condition float.VCVTPS2PH = on.AvxAndF16c
 float_condition _ = on.Avx
 
 -- the condition of an opcode: fused multiply-add instructions
-unfoldable pub fused_condition : FusedOpcode → Condition
+abbrev pub fused_condition : FusedOpcode → Condition
 fused_condition _ = on.Avx
 
 -- the condition of an opcode: instructions that have only an EVEX prefix
-unfoldable pub marked_condition : MarkedOpcode → Condition
+abbrev pub marked_condition : MarkedOpcode → Condition
 marked_condition marked.VPMULLQ = on.Avx
 marked_condition marked.VP4DPWSSDS = on.Always
 marked_condition marked.VP4DPWSSD = on.Always

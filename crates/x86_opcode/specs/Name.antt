@@ -14,7 +14,7 @@ use Rattle.x86_opcode.specs.declared.MarkedOpcode.{MarkedOpcode}
 use Rattle.x86_opcode.specs.declared.MarkedOpcode.TheVariants as marked
 
 -- the name of an opcode: instructions that have no VEX or EVEX prefix
-unfoldable pub legacy_name : LegacyOpcode → List ℕ
+abbrev pub legacy_name : LegacyOpcode → List ℕ
 legacy_name legacy.FEMMS = codes "FEMMS"
 legacy_name legacy.PAVGUSB = codes "PAVGUSB"
 legacy_name legacy.PFADD = codes "PFADD"
@@ -187,7 +187,7 @@ legacy_name legacy.INVVPID = codes "INVVPID"
 legacy_name legacy.HRESET = codes "HRESET"
 
 -- the name of an opcode: VEX instructions on integers, on general registers, and on no operand
-unfoldable pub integer_name : IntegerOpcode → List ℕ
+abbrev pub integer_name : IntegerOpcode → List ℕ
 integer_name integer.ANDN = codes "ANDN"
 integer_name integer.BEXTR = codes "BEXTR"
 integer_name integer.BLSI = codes "BLSI"
@@ -363,7 +363,7 @@ integer_name integer.VZEROALL = codes "VZEROALL"
 integer_name integer.VZEROUPPER = codes "VZEROUPPER"
 
 -- the name of an opcode: VEX instructions on packed and scalar floats
-unfoldable pub float_name : FloatOpcode → List ℕ
+abbrev pub float_name : FloatOpcode → List ℕ
 float_name float.VCVTPH2PS = codes "VCVTPH2PS"
 float_name float.VCVTPS2PH = codes "VCVTPS2PH"
 float_name float.VADDPD = codes "VADDPD"
@@ -495,7 +495,7 @@ float_name float.VXORPD = codes "VXORPD"
 float_name float.VXORPS = codes "VXORPS"
 
 -- the name of an opcode: fused multiply-add instructions
-unfoldable pub fused_name : FusedOpcode → List ℕ
+abbrev pub fused_name : FusedOpcode → List ℕ
 fused_name fused.VFMADD132PS = codes "VFMADD132PS"
 fused_name fused.VFMADD132PD = codes "VFMADD132PD"
 fused_name fused.VFMADD132SS = codes "VFMADD132SS"
@@ -558,7 +558,7 @@ fused_name fused.VFNMSUB231SS = codes "VFNMSUB231SS"
 fused_name fused.VFNMSUB231SD = codes "VFNMSUB231SD"
 
 -- the name of an opcode: instructions that have only an EVEX prefix
-unfoldable pub marked_name : MarkedOpcode → List ℕ
+abbrev pub marked_name : MarkedOpcode → List ℕ
 marked_name marked.VPMULLQ = codes "VPMULLQ"
 marked_name marked.VP4DPWSSDS = codes "VP4DPWSSDS"
 marked_name marked.VP4DPWSSD = codes "VP4DPWSSD"

@@ -81,7 +81,7 @@ pub enum Condition {
 
 impl Opcode {
     /// What the settings must say to permit the opcode without the EVEX mark.
-    #[tactic(auto, unfolding(crate::specs::Condition::opcode_condition, crate::specs::Condition::fused_condition))]
+    #[tactic(auto, unfolding(crate::specs::Condition::opcode_condition))]
     pub fn condition(self) -> Condition
         ensures { result ≡ opcode_condition self }
     {
@@ -96,7 +96,7 @@ impl Opcode {
     }
 
     /// The number of the settings bit that the opcode alone needs where it has the EVEX mark.
-    #[tactic(auto, unfolding(crate::specs::Mark::marked_bit, crate::specs::Mark::marked_part_bit))]
+    #[tactic(auto, unfolding(crate::specs::Mark::marked_bit))]
     pub fn marked_bit(self) -> Option<u8>
         ensures value { result ≡ marked_bit self }
         ensures below { IfSome result (λ bit. bit < 128) }

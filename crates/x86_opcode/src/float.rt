@@ -1,7 +1,8 @@
 // The constants, the names and the conditions of a part, written by tools/opcodes.py.
 ghost use Rattle.std.specs.Prelude.{◌≡◌, Some};
-ghost use Rattle.x86_opcode.specs.Condition.{float_condition};
-ghost use Rattle.x86_opcode.specs.Name.{float_name};
+ghost use Rattle.x86_opcode.specs.Condition.{opcode_condition};
+ghost use Rattle.x86_opcode.specs.Name.{opcode_name};
+ghost use Rattle.x86_opcode.specs.declared.Opcode.TheVariants.{Float};
 
 use crate::{Condition, FloatOpcode, Opcode};
 use std::fmt;
@@ -269,9 +270,9 @@ impl Opcode {
 
 impl FloatOpcode {
     /// The opcode's name, spelled as its variant.
-    #[tactic(auto, unfolding(crate::specs::Name::float_name))]
+    #[tactic(auto, unfolding(crate::specs::Name::opcode_name))]
     pub fn name(&self) -> &'static str
-        ensures { result.now ≡ float_name self.now }
+        ensures { result.now ≡ opcode_name (Float self.now) }
     {
         match self {
             FloatOpcode::VCVTPH2PS => "VCVTPH2PS",
@@ -407,9 +408,9 @@ impl FloatOpcode {
     }
 
     /// What the settings must say to permit the opcode without the EVEX mark.
-    #[tactic(auto, unfolding(crate::specs::Condition::float_condition))]
+    #[tactic(auto, unfolding(crate::specs::Condition::opcode_condition))]
     pub fn condition(self) -> Condition
-        ensures { result ≡ float_condition self }
+        ensures { result ≡ opcode_condition (Float self) }
     {
         match self {
             FloatOpcode::VCVTPH2PS | FloatOpcode::VCVTPS2PH => Condition::AvxAndF16c,
@@ -419,7 +420,7 @@ impl FloatOpcode {
 }
 
 impl fmt::Debug for FloatOpcode {
-    ghost debug_output = { λ opcode. Some (float_name opcode) };
+    ghost debug_output = { λ opcode. Some (opcode_name (Float opcode)) };
 
     fn fmt<W: fmt::Write>(&self, f: &mut fmt::Formatter<W>) -> fmt::Result {
         f.write_str(self.name())

@@ -1,6 +1,7 @@
 // The constants, the names and the conditions of a part, written by tools/opcodes.py.
 ghost use Rattle.std.specs.Prelude.{◌≡◌, Some};
-ghost use Rattle.x86_opcode.specs.Name.{fused_name};
+ghost use Rattle.x86_opcode.specs.Name.{opcode_name};
+ghost use Rattle.x86_opcode.specs.declared.Opcode.TheVariants.{Fused};
 
 use crate::{FusedOpcode, Opcode};
 use std::fmt;
@@ -130,9 +131,9 @@ impl Opcode {
 
 impl FusedOpcode {
     /// The opcode's name, spelled as its variant.
-    #[tactic(auto, unfolding(crate::specs::Name::fused_name))]
+    #[tactic(auto, unfolding(crate::specs::Name::opcode_name))]
     pub fn name(&self) -> &'static str
-        ensures { result.now ≡ fused_name self.now }
+        ensures { result.now ≡ opcode_name (Fused self.now) }
     {
         match self {
             FusedOpcode::VFMADD132PS => "VFMADD132PS",
@@ -200,7 +201,7 @@ impl FusedOpcode {
 }
 
 impl fmt::Debug for FusedOpcode {
-    ghost debug_output = { λ opcode. Some (fused_name opcode) };
+    ghost debug_output = { λ opcode. Some (opcode_name (Fused opcode)) };
 
     fn fmt<W: fmt::Write>(&self, f: &mut fmt::Formatter<W>) -> fmt::Result {
         f.write_str(self.name())

@@ -1,7 +1,8 @@
 // The constants, the names and the conditions of a part, written by tools/opcodes.py.
 ghost use Rattle.std.specs.Prelude.{◌≡◌, Some};
-ghost use Rattle.x86_opcode.specs.Condition.{integer_condition};
-ghost use Rattle.x86_opcode.specs.Name.{integer_name};
+ghost use Rattle.x86_opcode.specs.Condition.{opcode_condition};
+ghost use Rattle.x86_opcode.specs.Name.{opcode_name};
+ghost use Rattle.x86_opcode.specs.declared.Opcode.TheVariants.{Integer};
 
 use crate::{Condition, IntegerOpcode, Opcode};
 use std::fmt;
@@ -357,9 +358,9 @@ impl Opcode {
 
 impl IntegerOpcode {
     /// The opcode's name, spelled as its variant.
-    #[tactic(auto, unfolding(crate::specs::Name::integer_name))]
+    #[tactic(auto, unfolding(crate::specs::Name::opcode_name))]
     pub fn name(&self) -> &'static str
-        ensures { result.now ≡ integer_name self.now }
+        ensures { result.now ≡ opcode_name (Integer self.now) }
     {
         match self {
             IntegerOpcode::ANDN => "ANDN",
@@ -539,9 +540,9 @@ impl IntegerOpcode {
     }
 
     /// What the settings must say to permit the opcode without the EVEX mark.
-    #[tactic(auto, unfolding(crate::specs::Condition::integer_condition))]
+    #[tactic(auto, unfolding(crate::specs::Condition::opcode_condition))]
     pub fn condition(self) -> Condition
-        ensures { result ≡ integer_condition self }
+        ensures { result ≡ opcode_condition (Integer self) }
     {
         match self {
             IntegerOpcode::ANDN
@@ -569,7 +570,7 @@ impl IntegerOpcode {
 }
 
 impl fmt::Debug for IntegerOpcode {
-    ghost debug_output = { λ opcode. Some (integer_name opcode) };
+    ghost debug_output = { λ opcode. Some (opcode_name (Integer opcode)) };
 
     fn fmt<W: fmt::Write>(&self, f: &mut fmt::Formatter<W>) -> fmt::Result {
         f.write_str(self.name())

@@ -1,7 +1,8 @@
 // The constants, the names and the conditions of a part, written by tools/opcodes.py.
 ghost use Rattle.std.specs.Prelude.{◌≡◌, Some};
-ghost use Rattle.x86_opcode.specs.Condition.{legacy_condition};
-ghost use Rattle.x86_opcode.specs.Name.{legacy_name};
+ghost use Rattle.x86_opcode.specs.Condition.{opcode_condition};
+ghost use Rattle.x86_opcode.specs.Name.{opcode_name};
+ghost use Rattle.x86_opcode.specs.declared.Opcode.TheVariants.{Legacy};
 
 use crate::{Condition, LegacyOpcode, Opcode};
 use std::fmt;
@@ -351,9 +352,9 @@ impl Opcode {
 
 impl LegacyOpcode {
     /// The opcode's name, spelled as its variant.
-    #[tactic(auto, unfolding(crate::specs::Name::legacy_name))]
+    #[tactic(auto, unfolding(crate::specs::Name::opcode_name))]
     pub fn name(&self) -> &'static str
-        ensures { result.now ≡ legacy_name self.now }
+        ensures { result.now ≡ opcode_name (Legacy self.now) }
     {
         match self {
             LegacyOpcode::FEMMS => "FEMMS",
@@ -530,9 +531,9 @@ impl LegacyOpcode {
     }
 
     /// What the settings must say to permit the opcode without the EVEX mark.
-    #[tactic(auto, unfolding(crate::specs::Condition::legacy_condition))]
+    #[tactic(auto, unfolding(crate::specs::Condition::opcode_condition))]
     pub fn condition(self) -> Condition
-        ensures { result ≡ legacy_condition self }
+        ensures { result ≡ opcode_condition (Legacy self) }
     {
         match self {
             LegacyOpcode::FEMMS
@@ -704,7 +705,7 @@ impl LegacyOpcode {
 }
 
 impl fmt::Debug for LegacyOpcode {
-    ghost debug_output = { λ opcode. Some (legacy_name opcode) };
+    ghost debug_output = { λ opcode. Some (opcode_name (Legacy opcode)) };
 
     fn fmt<W: fmt::Write>(&self, f: &mut fmt::Formatter<W>) -> fmt::Result {
         f.write_str(self.name())

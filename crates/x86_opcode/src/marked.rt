@@ -1,7 +1,8 @@
 // The constants, the names and the conditions of a part, written by tools/opcodes.py.
 ghost use Rattle.std.specs.Prelude.{◌≡◌, Some};
-ghost use Rattle.x86_opcode.specs.Condition.{marked_condition};
-ghost use Rattle.x86_opcode.specs.Name.{marked_name};
+ghost use Rattle.x86_opcode.specs.Condition.{opcode_condition};
+ghost use Rattle.x86_opcode.specs.Name.{opcode_name};
+ghost use Rattle.x86_opcode.specs.declared.Opcode.TheVariants.{Marked};
 
 use crate::{Condition, MarkedOpcode, Opcode};
 use std::fmt;
@@ -45,9 +46,9 @@ impl Opcode {
 
 impl MarkedOpcode {
     /// The opcode's name, spelled as its variant.
-    #[tactic(auto, unfolding(crate::specs::Name::marked_name))]
+    #[tactic(auto, unfolding(crate::specs::Name::opcode_name))]
     pub fn name(&self) -> &'static str
-        ensures { result.now ≡ marked_name self.now }
+        ensures { result.now ≡ opcode_name (Marked self.now) }
     {
         match self {
             MarkedOpcode::VPMULLQ => "VPMULLQ",
@@ -71,9 +72,9 @@ impl MarkedOpcode {
     }
 
     /// What the settings must say to permit the opcode without the EVEX mark.
-    #[tactic(auto, unfolding(crate::specs::Condition::marked_condition))]
+    #[tactic(auto, unfolding(crate::specs::Condition::opcode_condition))]
     pub fn condition(self) -> Condition
-        ensures { result ≡ marked_condition self }
+        ensures { result ≡ opcode_condition (Marked self) }
     {
         match self {
             MarkedOpcode::VPMULLQ => Condition::Avx,
@@ -98,7 +99,7 @@ impl MarkedOpcode {
 }
 
 impl fmt::Debug for MarkedOpcode {
-    ghost debug_output = { λ opcode. Some (marked_name opcode) };
+    ghost debug_output = { λ opcode. Some (opcode_name (Marked opcode)) };
 
     fn fmt<W: fmt::Write>(&self, f: &mut fmt::Formatter<W>) -> fmt::Result {
         f.write_str(self.name())

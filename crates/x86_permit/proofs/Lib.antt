@@ -1,0 +1,4 @@
+mod Bits
+mod ReadBits
+mod VexConditions
+mod Laws

@@ -1,0 +1,4 @@
+pub mod Settings
+pub mod Permission
+pub mod LeastSettings
+pub mod Laws
