@@ -7,15 +7,20 @@ use crate::register::RegSpec;
 /// An index register and the factor that it is multiplied by.
 #[derive(Clone, Copy, Debug)]
 pub struct Index {
+    /// The register.
     pub reg: RegSpec,
+    /// The factor: 1, 2, 4 or 8 in every address that bytes can spell.
     pub scale: u8,
 }
 
 /// A memory address: a base, a scaled index and a displacement, each compared by itself.
 #[derive(Clone, Copy, Debug)]
 pub struct Address {
+    /// The base register, where there is one.
     pub base: Option<RegSpec>,
+    /// The scaled index, where there is one.
     pub index: Option<Index>,
+    /// The displacement in bytes. An absent one is 0.
     pub disp: i32,
 }
 

@@ -254,7 +254,5 @@ fn kept(operands: &[Operand]) -> [Operand; MAX_OPERANDS]
 fn kept_at(operands: &[Operand], i: usize) -> Operand
     ensures { result ≡ kept_operand (operand_at (map operand_meaning operands.now) i) }
 {
-    operands
-        .get(i)
-        .map_or(Operand::Nothing, |operand| operand.kept())
+    operands.get(i).map_or(Operand::Nothing, Operand::kept)
 }

@@ -42,6 +42,7 @@ impl MemoryAccessSize {
     pub fn bytes_size(&self) -> Option<u8>
         ensures unknown { IsNone result ↔ (self.now ≡ 63) }
         ensures value { IfSome result (λ bytes. bytes ≡ self.now) }
+        ensures within { (1 ≤ self.now) × (self.now ≤ 64) }
     {
         if self.size == 63 {
             None
