@@ -2,7 +2,6 @@
 
 ghost use Rattle.std.specs.Prelude.{◌≡◌, find, ◌==◌, ◌&&◌, Some};
 ghost use Rattle.std.specs.List.{list_all, list_any};
-ghost use Rattle.x86_operand.specs.declared.register.RegisterBank.{RegisterBank};
 ghost use Rattle.vex_rows.specs.Steps.{steps};
 ghost use Rattle.vex_rows.specs.Groups.{groups};
 ghost use Rattle.vex_rows.specs.Row.{exists, group_opcode, has_groups, has_imm, is_group, is_group_check, opcode_of, permits_choice};

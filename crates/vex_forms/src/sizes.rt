@@ -1,7 +1,6 @@
 //! The size of the memory operand of each form, in bytes.
 
 ghost use Rattle.std.specs.Prelude.{◌≡◌, IfSome, if◌then◌else◌};
-ghost use Rattle.x86_operand.specs.Kind.{Kind};
 ghost use Rattle.vex_forms.specs.Layout.{IsSize, chosen};
 ghost use Rattle.vex_forms.specs.Slots.{broadcast_size, by_l, by_w, extract_size, gather_size, half_size, insert_size, load_size, memory_size, move_size, scalar_size, size_of, store_size, widening_size};
 

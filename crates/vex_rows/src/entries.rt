@@ -3,39 +3,12 @@
 ghost use Rattle.std.specs.Prelude.{◌≡◌, ◌<◌, IfSome, IfNone, Some, true, false, length, slice_get, find};
 ghost use Rattle.vex_rows.specs.declared.entry.Entry.{Entry};
 ghost use Rattle.vex_rows.specs.Row.{Among};
-ghost use Rattle.vex_rows.specs.Rules.{has_key, allows, map_number, pp_number};
+ghost use Rattle.vex_rows.specs.Rules.{has_key};
 ghost use Rattle.vex_rows.specs.Table.{table};
 
-use crate::entry::{Entry, Rule};
-use crate::key::{Key, Map, Pp};
+use crate::entry::Entry;
+use crate::key::Key;
 use crate::table::TABLE;
-
-impl Rule {
-    /// Whether the rule allows a bit.
-    pub fn allows(self, bit: bool) -> bool
-        ensures { result ≡ allows self bit }
-    {
-        match self {
-            Rule::Any => true,
-            Rule::Zero => !bit,
-            Rule::One => bit,
-        }
-    }
-}
-
-impl Entry {
-    /// Whether the entry has the key: map, implied prefix and byte are the key's, and its rules allow the key's W and L.
-    #[tactic(auto, unfolding(crate::specs::Rules::has_key))]
-    pub fn has_key(&self, key: &Key) -> bool
-        ensures { result ≡ has_key self.now key.now }
-    {
-        self.byte == key.byte
-            && self.map == key.map
-            && self.pp == key.pp
-            && self.w.allows(key.w)
-            && self.l.allows(key.l)
-    }
-}
 
 /// All entries, in table order.
 #[tactic(auto, unfolding(crate::specs::Table::table))]

@@ -1,7 +1,10 @@
 //! One line of the opcode maps.
 
+ghost use Rattle.std.specs.Prelude.{◌≡◌};
+ghost use Rattle.vex_rows.specs.Rules.{allows, has_key};
+
 use crate::form::Form;
-use crate::key::{Map, Pp};
+use crate::key::{Key, Map, Pp};
 use x86_operand::Opcode;
 
 /// What an entry asks of a bit of the prefix.
@@ -26,4 +29,31 @@ pub struct Entry {
     pub l: Rule,
     pub form: Form,
     pub opcode: Opcode,
+}
+
+impl Rule {
+    /// Whether the rule allows a bit.
+    pub fn allows(self, bit: bool) -> bool
+        ensures { result ≡ allows self bit }
+    {
+        match self {
+            Rule::Any => true,
+            Rule::Zero => !bit,
+            Rule::One => bit,
+        }
+    }
+}
+
+impl Entry {
+    /// Whether the entry has the key: map, implied prefix and byte are the key's, and its rules allow the key's W and L.
+    #[tactic(auto, unfolding(crate::specs::Rules::has_key))]
+    pub fn has_key(&self, key: &Key) -> bool
+        ensures { result ≡ has_key self.now key.now }
+    {
+        self.byte == key.byte
+            && self.map == key.map
+            && self.pp == key.pp
+            && self.w.allows(key.w)
+            && self.l.allows(key.l)
+    }
 }
