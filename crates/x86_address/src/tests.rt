@@ -190,7 +190,7 @@ fn each_modrm_reads_as_its_fields_say_and_no_beginning_does(rt: HostRuntime) {
 /// Address bytes with the prefix bit B that they stand with, the address that they spell with X 0, and its shortest
 /// bytes with their bit B.
 #[derive(Drop)]
-struct Written<'a> {
+struct Case<'a> {
     modrm: u8,
     after: &'a [u8],
     b: bool,
@@ -199,7 +199,7 @@ struct Written<'a> {
     shortest_b: bool,
 }
 
-fn is_read_and_written(rt: &impl Abort, case: &Written)
+fn is_read_and_written(rt: &impl Abort, case: &Case)
     requires { case.now.modrm < 0xC0 }
 {
     let (outcome, taken) = address_of(case.after, case.modrm, false, case.b);
@@ -213,8 +213,8 @@ fn is_read_and_written(rt: &impl Abort, case: &Written)
 #[test]
 fn addresses_are_read_and_written_in_their_shortest_bytes(rt: HostRuntime) {
     let cases = [
-        // A displacement 0 is None, but base 5 needs it; SIB without an index.
-        Written {
+        // A displacement 0 is none, but base 5 needs it; SIB without an index.
+        Case {
             modrm: 0x80,
             after: &[0, 0, 0, 0],
             b: false,
@@ -222,7 +222,7 @@ fn addresses_are_read_and_written_in_their_shortest_bytes(rt: HostRuntime) {
             shortest: &[0x00],
             shortest_b: false,
         },
-        Written {
+        Case {
             modrm: 0x45,
             after: &[0],
             b: false,
@@ -230,7 +230,7 @@ fn addresses_are_read_and_written_in_their_shortest_bytes(rt: HostRuntime) {
             shortest: &[0x45, 0],
             shortest_b: false,
         },
-        Written {
+        Case {
             modrm: 0x04,
             after: &[0x20],
             b: false,
@@ -239,7 +239,7 @@ fn addresses_are_read_and_written_in_their_shortest_bytes(rt: HostRuntime) {
             shortest_b: false,
         },
         // B plays no part beside the instruction pointer; the longest address.
-        Written {
+        Case {
             modrm: 0x05,
             after: &[0x10, 0, 0, 0],
             b: true,
@@ -247,7 +247,7 @@ fn addresses_are_read_and_written_in_their_shortest_bytes(rt: HostRuntime) {
             shortest: &[0x05, 0x10, 0, 0, 0],
             shortest_b: false,
         },
-        Written {
+        Case {
             modrm: 0x84,
             after: &[0x88, 0x78, 0x56, 0x34, 0x12],
             b: false,
@@ -256,7 +256,7 @@ fn addresses_are_read_and_written_in_their_shortest_bytes(rt: HostRuntime) {
             shortest_b: false,
         },
         // The ends of 8 bits.
-        Written {
+        Case {
             modrm: 0x80,
             after: &[0x80, 0xff, 0xff, 0xff],
             b: false,
@@ -264,7 +264,7 @@ fn addresses_are_read_and_written_in_their_shortest_bytes(rt: HostRuntime) {
             shortest: &[0x40, 0x80],
             shortest_b: false,
         },
-        Written {
+        Case {
             modrm: 0x80,
             after: &[0x80, 0, 0, 0],
             b: false,
@@ -273,7 +273,7 @@ fn addresses_are_read_and_written_in_their_shortest_bytes(rt: HostRuntime) {
             shortest_b: false,
         },
         // Base 12, and no base.
-        Written {
+        Case {
             modrm: 0x04,
             after: &[0x24],
             b: true,
@@ -281,7 +281,7 @@ fn addresses_are_read_and_written_in_their_shortest_bytes(rt: HostRuntime) {
             shortest: &[0x04, 0x24],
             shortest_b: true,
         },
-        Written {
+        Case {
             modrm: 0x04,
             after: &[0x25, 0, 0x10, 0, 0],
             b: false,
