@@ -25,7 +25,8 @@ pub fn read_modrm<R: Reader>(words: &mut R) -> Result<u8, DecodeError>
     ensures counted { OnErr result (CountsRefusal (R.state words.old) (R.state words.new)) }
     ensures read { IfOk result (Reads take_byte (R.state words.old) (R.state words.new)) }
     ensures short { OnErr result (FallsShort take_byte (R.state words.old) (R.state words.new)) }
-    ensures slice { (before after : SliceReader) → R.state words.old ≡ slice_state before → R.state words.new ≡ slice_state after
+    ensures slice { (before after : SliceReader)
+        → R.state words.old ≡ slice_state before → R.state words.new ≡ slice_state after
         → ExactOverSlice take_byte result before after }
 {
     read_byte(words)
@@ -51,20 +52,24 @@ pub fn read_address<R: Reader>(
     requires { modrm < 0xC0 }
 
     // ModRM and the bytes taken, at most 5, spell the address.
-    ensures spells { IfOk result (λ address. SpelledBy modrm x b address (R.state words.old) (R.state words.new)) }
+    ensures spells { IfOk result (λ address.
+        SpelledBy modrm x b address (R.state words.old) (R.state words.new)) }
     ensures banks { IfOk result (λ address. address ≡ in_banks RegisterBank.Q (plain address)) }
     ensures error { IfErr result (λ error. error ≡ DecodeError.ExhaustedInput) }
     ensures counted { OnErr result (CountsRefusal (R.state words.old) (R.state words.new)) }
 
     // After an error the bytes taken, at most 4, are fewer than the case wants.
     ensures cut { OnErr result (CutShort modrm (R.state words.old) (R.state words.new)) }
-    ensures slice { (before after : SliceReader) → R.state words.old ≡ slice_state before → R.state words.new ≡ slice_state after
+    ensures slice { (before after : SliceReader)
+        → R.state words.old ≡ slice_state before → R.state words.new ≡ slice_state after
         → ExactOverSlice (take_place (modrm / 64) (modrm % 8)) result before after }
 
     // The same as one step of a longer reading.
-    ensures read { IfOk result (λ address. ReadsSome (take_place (modrm / 64) (modrm % 8)) (λ place. NamesAddress place x b address)
+    ensures read { IfOk result (λ address.
+        ReadsSome (take_place (modrm / 64) (modrm % 8)) (λ place. NamesAddress place x b address)
         (R.state words.old) (R.state words.new)) }
-    ensures short { OnErr result (FallsShort (take_place (modrm / 64) (modrm % 8)) (R.state words.old) (R.state words.new)) }
+    ensures short { OnErr result (FallsShort (take_place (modrm / 64) (modrm % 8))
+        (R.state words.old) (R.state words.new)) }
 {
     read_by_fields(words, modrm / 64, modrm % 8, x, b)
 }
@@ -81,7 +86,8 @@ pub fn read_imm<R: Reader>(words: &mut R) -> Result<u8, DecodeError>
     ensures counted { OnErr result (CountsRefusal (R.state words.old) (R.state words.new)) }
     ensures read { IfOk result (Reads take_byte (R.state words.old) (R.state words.new)) }
     ensures short { OnErr result (FallsShort take_byte (R.state words.old) (R.state words.new)) }
-    ensures slice { (before after : SliceReader) → R.state words.old ≡ slice_state before → R.state words.new ≡ slice_state after
+    ensures slice { (before after : SliceReader)
+        → R.state words.old ≡ slice_state before → R.state words.new ≡ slice_state after
         → ExactOverSlice take_byte result before after }
 {
     read_byte(words)
@@ -96,7 +102,8 @@ fn read_byte<R: Reader>(words: &mut R) -> Result<u8, DecodeError>
     ensures counted { OnErr result (CountsRefusal (R.state words.old) (R.state words.new)) }
     ensures read { IfOk result (Reads take_byte (R.state words.old) (R.state words.new)) }
     ensures short { OnErr result (FallsShort take_byte (R.state words.old) (R.state words.new)) }
-    ensures slice { (before after : SliceReader) → R.state words.old ≡ slice_state before → R.state words.new ≡ slice_state after
+    ensures slice { (before after : SliceReader)
+        → R.state words.old ≡ slice_state before → R.state words.new ≡ slice_state after
         → ExactOverSlice take_byte result before after }
 {
     words.next().map_err(|_| DecodeError::ExhaustedInput)
@@ -104,7 +111,8 @@ fn read_byte<R: Reader>(words: &mut R) -> Result<u8, DecodeError>
 
 // A displacement of four bytes, the lowest first.
 fn read_word<R: Reader>(words: &mut R) -> Result<i32, DecodeError>
-    ensures read { IfOk result (λ disp. ReadsSome take_word (λ n. disp ≡ cast_signed w32 n) (R.state words.old) (R.state words.new)) }
+    ensures read { IfOk result (λ disp. ReadsSome take_word (λ n. disp ≡ cast_signed w32 n)
+        (R.state words.old) (R.state words.new)) }
     ensures error { IfErr result (λ error. error ≡ DecodeError.ExhaustedInput) }
     ensures short { OnErr result (FallsShort take_word (R.state words.old) (R.state words.new)) }
 {
@@ -118,7 +126,8 @@ fn read_word<R: Reader>(words: &mut R) -> Result<i32, DecodeError>
 // A displacement as long as the field mod says: none, a byte or four bytes for mod 0, 1 and 2.
 fn read_displacement<R: Reader>(words: &mut R, mode: u8) -> Result<i32, DecodeError>
     requires { mode < 3 }
-    ensures read { IfOk result (λ disp. ReadsSome (take_displacement mode) (λ d. disp ≡ displacement_value d) (R.state words.old) (R.state words.new)) }
+    ensures read { IfOk result (λ disp. ReadsSome (take_displacement mode) (λ d. disp ≡ displacement_value d)
+        (R.state words.old) (R.state words.new)) }
     ensures error { IfErr result (λ error. error ≡ DecodeError.ExhaustedInput) }
     ensures short { OnErr result (FallsShort (take_displacement mode) (R.state words.old) (R.state words.new)) }
 {
@@ -161,7 +170,8 @@ fn index_of(sib: u8, x: bool) -> Option<Index>
 // The address that SIB begins, with mod 0, 1 or 2.
 fn read_by_sib<R: Reader>(words: &mut R, mode: u8, x: bool, b: bool) -> Result<Address, DecodeError>
     requires { mode < 3 }
-    ensures read { IfOk result (λ address. ReadsSome (take_sib mode) (λ place. NamesAddress place x b address) (R.state words.old) (R.state words.new)) }
+    ensures read { IfOk result (λ address. ReadsSome (take_sib mode) (λ place. NamesAddress place x b address)
+        (R.state words.old) (R.state words.new)) }
     ensures error { IfErr result (λ error. error ≡ DecodeError.ExhaustedInput) }
     ensures short { OnErr result (FallsShort (take_sib mode) (R.state words.old) (R.state words.new)) }
 {
@@ -190,7 +200,8 @@ fn read_by_fields<R: Reader>(
 ) -> Result<Address, DecodeError>
     requires memory { mode < 3 }
     requires field { rm < 8 }
-    ensures read { IfOk result (λ address. ReadsSome (take_place mode rm) (λ place. NamesAddress place x b address) (R.state words.old) (R.state words.new)) }
+    ensures read { IfOk result (λ address. ReadsSome (take_place mode rm)
+        (λ place. NamesAddress place x b address) (R.state words.old) (R.state words.new)) }
     ensures error { IfErr result (λ error. error ≡ DecodeError.ExhaustedInput) }
     ensures short { OnErr result (FallsShort (take_place mode rm) (R.state words.old) (R.state words.new)) }
 {

@@ -112,7 +112,8 @@ fn packed(high: u8, middle: u8, low: u8) -> u8
 // SIB with this field of the base: the scale's exponent and the low bits of the index, or 0 and 4 for none.
 fn sib(index: Option<Index>, base: u8) -> u8
     requires { base < 8 }
-    ensures { result ≡ 64 * exponent_field (plain_index index) + 8 * index_field (plain_index index) + base }
+    ensures { result
+        ≡ 64 * exponent_field (plain_index index) + 8 * index_field (plain_index index) + base }
 {
     match index {
         None => packed(0, 4, base),
@@ -183,7 +184,8 @@ fn address_bytes(base: Option<RegSpec>, index: Option<Index>, disp: i32) -> Arra
 /// - There is an index with the number 4.
 /// - There is an index with a scale other than 1, 2, 4 and 8.
 pub fn shortest_address(address: &Address) -> Option<AddressBytes>
-    ensures bytes { IfSome result (λ found. found.bytes.items ≡ place_bytes 0 (shortest (At (plain address.now)))) }
+    ensures bytes { IfSome result (λ found.
+        found.bytes.items ≡ place_bytes 0 (shortest (At (plain address.now)))) }
     ensures x { IfSome result (λ found. found.x ≡ x_of (At (plain address.now))) }
     ensures b { IfSome result (λ found. found.b ≡ b_of (At (plain address.now))) }
 
@@ -193,7 +195,8 @@ pub fn shortest_address(address: &Address) -> Option<AddressBytes>
         → SpellsAddress bytes reg x b address.now → length found.bytes.items ≤ length bytes) }
 
     // None comes exactly where no bytes spell it, and where the base or the index doesn't fit.
-    ensures none { IsNone result ↔ ((bytes : List ℕ) (reg : ℕ) (x b : Bool) → ¬ (SpellsAddress bytes reg x b address.now)) }
+    ensures none { IsNone result ↔ ((bytes : List ℕ) (reg : ℕ) (x b : Bool)
+        → ¬ (SpellsAddress bytes reg x b address.now)) }
     ensures cases { IsSome result ↔ (BaseFits address.now.base address.now.index × IndexFits address.now.index) }
 
     // There are 1 to 6 bytes, and a caller adds the field reg to the first of them.

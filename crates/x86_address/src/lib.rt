@@ -8,3 +8,6 @@ pub mod laws;
 
 pub use decode::{read_address, read_imm, read_modrm};
 pub use encode::{AddressBytes, shortest_address};
+
+#[cfg(test)]
+mod tests;

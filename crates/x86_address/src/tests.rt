@@ -1,0 +1,338 @@
+//! What no clause shows: addresses as the manual's tables have them, and the calls at concrete readers.
+
+ghost use Rattle.std.specs.Prelude.{◌≡◌, ◌↔◌, ◌≤◌, ◌<◌, ◌/◌, ◌%◌, IsErr};
+ghost use Rattle.x86_address.specs.Reading.{take_place};
+
+use crate::{read_address, read_imm, read_modrm, shortest_address};
+use std::process::Abort;
+use x86_operand::{Address, DecodeError, Index, RegSpec, RegisterBank};
+use x86_reader::{FailReader, Reader, U8Reader};
+
+/// A SIB byte with the scale, index field and base field that it stands for.
+#[derive(Clone, Copy)]
+struct Sib {
+    byte: u8,
+    scale: u8,
+    index: u8,
+    base: u8,
+}
+
+/// Four bytes of displacement, with the value of the first of them alone, and of all.
+#[derive(Clone, Copy)]
+struct Disp {
+    bytes: [u8; 4],
+    short: i32,
+    long: i32,
+}
+
+fn sib_byte(byte: u8, scale: u8, index: u8, base: u8) -> Sib {
+    Sib {
+        byte,
+        scale,
+        index,
+        base,
+    }
+}
+
+fn four_bytes(bytes: [u8; 4], short: i32, long: i32) -> Disp {
+    Disp { bytes, short, long }
+}
+
+fn general(num: u8) -> Option<RegSpec> {
+    RegSpec::of(RegisterBank::Q, num)
+}
+
+fn instruction_pointer() -> Option<RegSpec> {
+    RegSpec::of(RegisterBank::RIP, 0)
+}
+
+fn address(base: Option<RegSpec>, index: Option<Index>, disp: i32) -> Address {
+    Address { base, index, disp }
+}
+
+fn index(num: u8, scale: u8) -> Option<Index> {
+    match general(num) {
+        Some(reg) => Some(Index { reg, scale }),
+        None => None,
+    }
+}
+
+/// The registers that a field names without and with the bit above it.
+const LOWER: [u8; 8] = [0, 1, 2, 3, 4, 5, 6, 7];
+
+const UPPER: [u8; 8] = [8, 9, 10, 11, 12, 13, 14, 15];
+
+fn register(field: u8, upper: bool) -> Option<RegSpec>
+    requires { field < 8 }
+{
+    general(if upper {
+        UPPER[field as usize]
+    } else {
+        LOWER[field as usize]
+    })
+}
+
+/// What follows ModRM with these fields: the address, and how many of the bytes SIB and displacement it takes.
+fn expected(mode: u8, rm: u8, sib: Sib, disp: Disp, x: bool, b: bool) -> (Address, usize)
+    requires { rm < 8 }
+    ensures { result.1 ≤ 5 }
+{
+    let by_sib = rm == 4;
+    let five = if by_sib { sib.base == 5 } else { rm == 5 };
+    let (value, bytes) = match (mode, five) {
+        (0, false) => (0, 0),
+        (1, _) => (disp.short, 1),
+        _ => (disp.long, 4),
+    };
+    if !by_sib {
+        let base = if mode == 0 && five {
+            instruction_pointer()
+        } else {
+            register(rm, b)
+        };
+        return (address(base, None, value), bytes);
+    }
+    let base = if mode == 0 && five {
+        None
+    } else {
+        register(sib.base % 8, b)
+    };
+    let scaled = match (sib.index, x) {
+        (4, false) => None,
+        (field, false) => index(field % 8, sib.scale),
+        (field, true) => index(field % 8 + 8, sib.scale),
+    };
+    (address(base, scaled, value), bytes + 1)
+}
+
+/// The answer over the bytes of a slice, which is an error exactly where they are too few.
+fn address_of(bytes: &[u8], modrm: u8, x: bool, b: bool) -> (Result<Address, DecodeError>, u64)
+    requires { modrm < 0xC0 }
+    ensures { IsErr result.0 ↔ IsErr (take_place (modrm / 64) (modrm % 8) bytes.now) }
+{
+    let mut words = U8Reader::new(bytes);
+    let outcome = read_address(&mut words, modrm, x, b);
+    (outcome, words.total_offset())
+}
+
+/// The bytes give the address, and no beginning of them gives one.
+fn reads_whole_only(rt: &impl Abort, bytes: &[u8], modrm: u8, x: bool, b: bool, address: Address)
+    requires { modrm < 0xC0 }
+{
+    let (outcome, taken) = address_of(bytes, modrm, x, b);
+    assert_eq!(rt; outcome, Ok(address), "ModRM {modrm}, then {bytes:?}");
+    assert_eq!(rt; taken, bytes.len() as u64, "ModRM {modrm}, then {bytes:?}");
+    for cut in 0..bytes.len() {
+        let (outcome, taken) = address_of(&bytes[..cut], modrm, x, b);
+        assert_eq!(rt;
+            outcome,
+            Err(DecodeError::ExhaustedInput),
+            "ModRM {modrm}, then {bytes:?} up to {cut}"
+        );
+        assert_eq!(rt;
+            taken,
+            cut as u64,
+            "ModRM {modrm}, then {bytes:?} up to {cut}"
+        );
+    }
+}
+
+/// With each field reg and each X and B, the bytes give the address that the fields say.
+fn reads_as_the_fields_say(rt: &impl Abort, mode: u8, rm: u8, sib: Sib, disp: Disp)
+    requires mode { mode < 3 }
+    requires rm { rm < 8 }
+{
+    let [lowest, second, third, highest] = disp.bytes;
+    let bytes = if rm == 4 {
+        [sib.byte, lowest, second, third, highest]
+    } else {
+        [lowest, second, third, highest, 0]
+    };
+    for reg in 0..8 {
+        let modrm = 64 * mode + 8 * reg + rm;
+        for bits in 0..4 {
+            let (x, b) = (bits / 2 == 1, bits % 2 == 1);
+            let (address, length) = expected(mode, rm, sib, disp, x, b);
+            reads_whole_only(rt, &bytes[..length], modrm, x, b, address);
+        }
+    }
+}
+
+#[test]
+fn each_modrm_reads_as_its_fields_say_and_no_beginning_does(rt: HostRuntime) {
+    let sibs = [
+        sib_byte(0x00, 1, 0, 0),
+        sib_byte(0x20, 1, 4, 0),
+        sib_byte(0x24, 1, 4, 4),
+        sib_byte(0x25, 1, 4, 5),
+        sib_byte(0x4d, 2, 1, 5),
+        sib_byte(0x88, 4, 1, 0),
+        sib_byte(0xe5, 8, 4, 5),
+        sib_byte(0xff, 8, 7, 7),
+    ];
+    let disps = [
+        four_bytes([0x00, 0x00, 0x00, 0x00], 0, 0),
+        four_bytes([0x80, 0xff, 0xff, 0xff], -128, -128),
+        four_bytes([0x7f, 0x34, 0x12, 0x80], 127, -2_146_290_561),
+        four_bytes([0x78, 0x56, 0x34, 0x12], 120, 305_419_896),
+    ];
+    for sib in sibs {
+        for disp in disps {
+            for mode in 0..3 {
+                for rm in 0..8 {
+                    reads_as_the_fields_say(&rt, mode, rm, sib, disp);
+                }
+            }
+        }
+    }
+}
+
+/// Address bytes with the prefix bit B that they stand with, the address that they spell with X 0, and its shortest
+/// bytes with their bit B.
+#[derive(Drop)]
+struct Case<'a> {
+    modrm: u8,
+    after: &'a [u8],
+    b: bool,
+    address: Address,
+    shortest: &'a [u8],
+    shortest_b: bool,
+}
+
+fn is_read_and_written(rt: &impl Abort, case: &Case)
+    requires { case.now.modrm < 0xC0 }
+{
+    let (outcome, taken) = address_of(case.after, case.modrm, false, case.b);
+    assert_eq!(rt; outcome, Ok(case.address));
+    assert_eq!(rt; taken, case.after.len() as u64);
+    let found = shortest_address(&case.address).expect(rt, "no bytes spell the address");
+    assert_eq!(rt; (found.x, found.b), (false, case.shortest_b));
+    assert_eq!(rt; found.bytes.as_slice(), case.shortest);
+}
+
+#[test]
+fn addresses_are_read_and_written_in_their_shortest_bytes(rt: HostRuntime) {
+    let cases = [
+        // A displacement 0 is none, but base 5 needs it; SIB without an index.
+        Case {
+            modrm: 0x80,
+            after: &[0, 0, 0, 0],
+            b: false,
+            address: address(general(0), None, 0),
+            shortest: &[0x00],
+            shortest_b: false,
+        },
+        Case {
+            modrm: 0x45,
+            after: &[0],
+            b: false,
+            address: address(general(5), None, 0),
+            shortest: &[0x45, 0],
+            shortest_b: false,
+        },
+        Case {
+            modrm: 0x04,
+            after: &[0x20],
+            b: false,
+            address: address(general(0), None, 0),
+            shortest: &[0x00],
+            shortest_b: false,
+        },
+        // B plays no part beside the instruction pointer; the longest address.
+        Case {
+            modrm: 0x05,
+            after: &[0x10, 0, 0, 0],
+            b: true,
+            address: address(instruction_pointer(), None, 16),
+            shortest: &[0x05, 0x10, 0, 0, 0],
+            shortest_b: false,
+        },
+        Case {
+            modrm: 0x84,
+            after: &[0x88, 0x78, 0x56, 0x34, 0x12],
+            b: false,
+            address: address(general(0), index(1, 4), 305_419_896),
+            shortest: &[0x84, 0x88, 0x78, 0x56, 0x34, 0x12],
+            shortest_b: false,
+        },
+        // The ends of 8 bits.
+        Case {
+            modrm: 0x80,
+            after: &[0x80, 0xff, 0xff, 0xff],
+            b: false,
+            address: address(general(0), None, -128),
+            shortest: &[0x40, 0x80],
+            shortest_b: false,
+        },
+        Case {
+            modrm: 0x80,
+            after: &[0x80, 0, 0, 0],
+            b: false,
+            address: address(general(0), None, 128),
+            shortest: &[0x80, 0x80, 0, 0, 0],
+            shortest_b: false,
+        },
+        // Base 12, and no base.
+        Case {
+            modrm: 0x04,
+            after: &[0x24],
+            b: true,
+            address: address(general(12), None, 0),
+            shortest: &[0x04, 0x24],
+            shortest_b: true,
+        },
+        Case {
+            modrm: 0x04,
+            after: &[0x25, 0, 0x10, 0, 0],
+            b: false,
+            address: address(None, None, 4096),
+            shortest: &[0x04, 0x25, 0, 0x10, 0, 0],
+            shortest_b: false,
+        },
+    ];
+    for case in &cases {
+        is_read_and_written(&rt, case);
+    }
+}
+
+#[test]
+fn no_bytes_spell_what_has_no_place_in_modrm_and_sib(rt: HostRuntime) {
+    let vector = RegSpec::of(RegisterBank::X, 1);
+    let vector_index = match vector {
+        Some(reg) => Some(Index { reg, scale: 1 }),
+        None => None,
+    };
+    let addresses = [
+        address(instruction_pointer(), index(1, 1), 0),
+        address(vector, None, 0),
+        address(general(0), vector_index, 0),
+        address(general(0), index(4, 1), 0),
+        address(general(0), index(1, 3), 0),
+    ];
+    for address in addresses {
+        assert_eq!(rt; shortest_address(&address), None, "{address:?}");
+    }
+}
+
+#[test]
+fn a_byte_that_a_reader_refuses_is_an_error_in_mid_stream(rt: HostRuntime) {
+    // ModRM 44, SIB 24, displacement 10, immediate 7; the calls 0 and 3 fail.
+    let bytes = [0x44, 0x24, 0x10, 0x07];
+    let exhausted = DecodeError::ExhaustedInput;
+    let mut words = FailReader::new(&bytes, &[0, 3]);
+    assert_eq!(rt; read_modrm(&mut words), Err(exhausted));
+    assert_eq!(rt; read_modrm(&mut words), Ok(0x44));
+    words.mark();
+    assert_eq!(rt;
+        read_address(&mut words, 0x44, false, false),
+        Err(exhausted)
+    );
+    assert_eq!(rt; (words.offset(), words.total_offset()), (1, 2));
+    assert_eq!(rt;
+        read_address(&mut words, 0x40, false, true),
+        Ok(address(general(8), None, 16))
+    );
+    assert_eq!(rt; read_imm(&mut words), Ok(7));
+    assert_eq!(rt; read_imm(&mut words), Err(exhausted));
+    assert_eq!(rt; (words.offset(), words.total_offset()), (3, 4));
+}
