@@ -4,7 +4,7 @@
 These are, in src/: the enum of each part of `Opcode` (the end of lib.rt), a file for each part with
 its constants, names and conditions, and the list of all opcodes (list.rt); in specs/: the numbers,
 the names, the conditions and the VEX opcodes; in proofs/: the lemmas that go opcode by opcode.
-Run it at the top of the repository, and then `rt fmt` in crates/x86_opcode.
+Run it at the top of the repository, and then `rt tidy` in crates/x86_opcode.
 """
 from pathlib import Path
 
@@ -81,6 +81,9 @@ def listing(parts, count):
     return [
         f"// The list of all opcodes, {NOTE}.",
         "use crate::Opcode;",
+        "",
+        "// The number of the first opcode of each part.",
+        *(f"pub(crate) const FIRST_{part.name.upper()}: u16 = {part.first};" for part in parts),
         "",
         "/// All opcodes, in the order of their numbers.",
         f"pub(crate) static ALL: [Opcode; {count}] = [",

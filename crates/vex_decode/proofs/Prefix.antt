@@ -58,7 +58,7 @@ bit-inverted : (n : ℕ) → n < 2 → 1 - bit (inverted n) ≡ n
 bit-inverted n h = grind (arith, nat_tests)
 
 -- a bit that stands as it is, and back
-is_one-bit : (b : Bool) → (bit b == 1) ≡ b
+pub is_one-bit : (b : Bool) → (bit b == 1) ≡ b
 is_one-bit true = refl
 is_one-bit false = refl
 
@@ -183,7 +183,7 @@ by_map None p q rest read e = cc
 by_map (Some map) p q rest read e = (map, refl, ok_same e)
 
 -- what follows the first byte
-abbrev after_form : PrefixForm × List ℕ → Reading (PrefixForm × Fields)
+abbrev pub after_form : PrefixForm × List ℕ → Reading (PrefixForm × Fields)
 after_form form = read_fields form.0 form.1 >>= (λ fields. Ok ((form.0, fields.0), fields.1))
 
 after_two : (rest : List ℕ) (read : (PrefixForm × Fields) × List ℕ) → IsBytes rest → after_form (C5, rest) ≡ Ok read → ReadsPrefix (197 ∷ rest) read

@@ -1,16 +1,16 @@
 -- The slots of every row fit its steps.
-use Rattle.std.specs.Prelude.{◌≡◌, refl, nat_le, Bool, true, false, not, ◌&&◌, ◌||◌, List, [], ◌∷◌, if◌then◌else◌}
-use Rattle.x86_operand.specs.declared.register.RegisterBank.TheVariants.{X}
+use Rattle.std.specs.Prelude.{◌≡◌, refl, ◌≤◌, nat_le, length, Bool, true, false, not, ◌&&◌, ◌||◌, if◌then◌else◌}
 use Rattle.x86_operand.specs.Kind.{Kind, WithoutModRM, InRegister, InMemory}
 use Rattle.vex_rows.specs.declared.form.Form.{Form}
 use Rattle.vex_rows.specs.declared.form.Form.TheVariants.{Nothing, VMOVSS_10, VMOVSD_10, VMOVSS_11, VMOVSD_11}
 use Rattle.vex_rows.specs.Steps.{steps}
 use Rattle.vex_rows.specs.Row.{Row, row_at}
 use Rattle.std.specs.List.{list_any}
+use Rattle.std.proofs.lemmas.Bool.{leb-true}
 use Rattle.vex_rows.proofs.Lists.{both-parts}
 use Rattle.vex_forms.specs.declared.slot.VvvvRule.TheVariants.{Named, Zero, Free}
 use Rattle.vex_forms.specs.Slots.{slots, slots_of, names_g, names_v, demands_v, v_rule}
-use Rattle.vex_forms.specs.Tests.{is_sound, is_distinct, immediates}
+use Rattle.vex_forms.specs.Tests.{is_sound, is_distinct, immediates, has_few}
 
 -- by the kind of a row, for the forms whose slots depend on it
 by_kind : (test : Kind → Bool) → test WithoutModRM ≡ true → test InRegister ≡ true → test InMemory ≡ true → (kind : Kind) → test kind ≡ true
@@ -35,6 +35,18 @@ distinct VMOVSD_10 row = by_kind (λ kind. is_distinct (slots_of VMOVSD_10 (row_
 distinct VMOVSS_11 row = by_kind (λ kind. is_distinct (slots_of VMOVSS_11 (row_at row.entry row.w row.l kind row.group))) refl refl refl row.kind
 distinct VMOVSD_11 row = by_kind (λ kind. is_distinct (slots_of VMOVSD_11 (row_at row.entry row.w row.l kind row.group))) refl refl refl row.kind
 distinct _ row = refl
+few : (form : Form) (row : Row) → has_few form row ≡ true
+few Nothing row = refl
+few VMOVSS_10 row = by_kind (λ kind. has_few VMOVSS_10 (row_at row.entry row.w row.l kind row.group)) refl refl refl row.kind
+few VMOVSD_10 row = by_kind (λ kind. has_few VMOVSD_10 (row_at row.entry row.w row.l kind row.group)) refl refl refl row.kind
+few VMOVSS_11 row = by_kind (λ kind. has_few VMOVSS_11 (row_at row.entry row.w row.l kind row.group)) refl refl refl row.kind
+few VMOVSD_11 row = by_kind (λ kind. has_few VMOVSD_11 (row_at row.entry row.w row.l kind row.group)) refl refl refl row.kind
+few _ row = refl
+
+-- every row has at most four slots
+pub few_slots : (row : Row) → length (slots row) ≤ 4
+unfolding slots
+few_slots row = leb-true (length (slots_of row.entry.form row)) 4 (few row.entry.form row)
 
 -- vvvv isn't both named by a slot and demanded to be 0
 abbrev pub named : Row → Bool

@@ -1,3 +1,5 @@
 pub mod Slots
 pub mod Gives
 pub mod Tests
+pub mod Layout
+pub mod Laws

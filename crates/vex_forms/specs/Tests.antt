@@ -1,6 +1,7 @@
 -- What the slots of a row must be for the laws of spellings: tests that are computed.
-use Rattle.std.specs.Prelude.{ℕ, ◌+◌, Bool, true, false, not, ◌&&◌, ◌||◌, nat_le, List, [], ◌∷◌, if◌then◌else◌}
+use Rattle.std.specs.Prelude.{ℕ, ◌+◌, Bool, true, false, not, ◌&&◌, ◌||◌, nat_le, List, [], ◌∷◌, if◌then◌else◌, length}
 use Rattle.std.specs.List.{list_any, count_by}
+-- What the slots of a row must be for the laws of spellings: a test that is computed.
 use Rattle.vex_rows.specs.declared.form.Form.{Form}
 use Rattle.vex_rows.specs.Steps.{steps}
 use Rattle.vex_rows.specs.Row.{Row}
@@ -24,3 +25,6 @@ is_sound form row =
 -- whether no field is named twice: at most one slot each names reg, vvvv and the operand E
 abbrev pub is_distinct : List Slot → Bool
 is_distinct slots = nat_le (count_by names_g slots) 1 && nat_le (count_by names_v slots) 1 && nat_le (count_by names_e slots) 1
+-- whether a form has at most four slots
+abbrev pub has_few : Form → Row → Bool
+has_few form row = nat_le (length (slots_of form row)) 4

@@ -3,7 +3,7 @@
 use x86_operand::RegisterBank;
 
 /// Where an operand stands in the bytes, and the bank of its register.
-#[derive(Clone, Copy, PartialEq, Eq, Debug)]
+#[derive(Clone, Copy, PartialEq, Eq, Debug, Default)]
 pub enum Slot {
     /// The register of the field reg, with the prefix bit R.
     G(RegisterBank),
@@ -12,6 +12,7 @@ pub enum Slot {
     /// The register of the field rm, with the prefix bit B, or an address in memory.
     E(RegisterBank),
     /// The immediate byte, unsigned.
+    #[default]
     U8,
     /// The immediate byte, signed.
     I8,

@@ -1,7 +1,7 @@
 -- The computed tests of the table and of the forms, and what follows from them.
 use Rattle.std.specs.Prelude.{◌≡◌, refl, ◌⊎◌, ℕ, ◌<◌, Bool, true, false, not, ◌&&◌, ◌==◌, nat_lt, List, [], ◌∷◌, ◌++◌, map, filter, if◌then◌else◌}
 use Rattle.std.specs.List.{list_all}
-use Rattle.std.proofs.Common.{inl, inr, sym, ◌∙◌, ap, subst, arith}
+use Rattle.std.proofs.Common.{inl, inr, sym, ◌∙◌, ap, subst, ltb-true, arith}
 use Rattle.std.proofs.lemmas.Bool.{eqb-true, eq-eqb}
 use Rattle.std.proofs.lemmas.Bool.Decides.{nat_tests}
 use Rattle.x86_opcode.specs.declared.Opcode.{Opcode}
@@ -9,7 +9,7 @@ use Rattle.x86_opcode.specs.declared.Opcode.TheVariants.{Integer}
 use Rattle.x86_opcode.specs.declared.IntegerOpcode.TheVariants.{VPSLLW}
 use Rattle.vex_rows.specs.declared.entry.Entry.{Entry}
 use Rattle.vex_rows.specs.declared.entry.Rule.{Rule}
-use Rattle.vex_rows.specs.declared.entry.Rule.TheVariants.{Any, Zero, One}
+use Rattle.vex_rows.specs.declared.entry.Rule.TheVariants.{Zero, One}
 use Rattle.vex_rows.specs.declared.form.Form.{Form}
 use Rattle.vex_rows.specs.declared.form.Form.TheVariants.{Nothing, VPS_71}
 use Rattle.vex_rows.specs.declared.key.Key.{Key}
@@ -18,8 +18,8 @@ use Rattle.vex_rows.specs.Steps.{steps}
 use Rattle.vex_rows.specs.Groups.{groups}
 use Rattle.vex_rows.specs.Table.{table}
 use Rattle.vex_rows.specs.Row.{Among}
-use Rattle.vex_rows.specs.Tests.{agree, share_key, clashes, large_bytes, is_orderly}
-use Rattle.vex_rows.proofs.Lists.{both-parts, parts-both, among-filter}
+use Rattle.vex_rows.specs.Tests.{agree, share_key, clashes, is_orderly, large_bytes}
+use Rattle.vex_rows.proofs.Lists.{both-parts, parts-both, among-filter, from-list_all}
 
 -- every form is orderly
 pub orderly : (form : Form) → is_orderly (steps form) ≡ true
@@ -108,6 +108,8 @@ only_one (entry ∷ entries) none a b key (inr m) (inr n) h k =
 pub one_entry : (a b : Entry) (key : Key) → Among a table → Among b table → has_key a key ≡ true → has_key b key ≡ true → a ≡ b
 one_entry a b key m n h k = only_one table no_clashes a b key m n h k
 
+pub small_group : (form : Form) (l : ℕ) (group : ℕ × Opcode) → Among group (groups form l) → group.0 < 8
+small_group form l group m = ltb-true group.0 8 (from-list_all (λ g. nat_lt g.0 8) group (groups form l) (small_groups form l) m)
 -- every opcode byte is a byte
 no_large_bytes : large_bytes table ≡ []
 unfolding table

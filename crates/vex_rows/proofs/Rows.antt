@@ -1,15 +1,14 @@
 -- What it is to be a row.
-use Rattle.std.specs.Prelude.{◌≡◌, refl, ◌⊎◌, ℕ, ◌≤◌, Bool, true, false, ◌&&◌, ◌==◌, List, [], ◌∷◌, ◌++◌, flat_map, Option, Some, None}
+use Rattle.std.specs.Prelude.{◌≡◌, refl, ℕ, ◌≤◌, Bool, true, false, ◌&&◌, ◌==◌, List, [], ◌∷◌, ◌++◌, flat_map}
 use Rattle.std.specs.List.{list_all}
-use Rattle.std.proofs.Common.{zero, suc, inl, inr, sym, ◌∙◌, ap, subst, arith}
-use Rattle.x86_operand.specs.Kind.{Kind}
+use Rattle.std.proofs.Common.{zero, suc, inl, inr, sym, subst, arith}
 use Rattle.vex_rows.specs.declared.entry.Entry.{Entry}
 use Rattle.vex_rows.specs.Rules.{allows}
 use Rattle.vex_rows.specs.declared.steps.Check.{Check}
-use Rattle.vex_rows.specs.Steps.{FormSteps, steps}
+use Rattle.vex_rows.specs.Steps.{steps}
 use Rattle.vex_rows.specs.Table.{table}
 use Rattle.vex_rows.specs.Row.{Row, Among, rows, row_at, choices, choices_of_kind, choices_of_l, choices_of_w, exists, IsRow, kinds_of, group_choices, permits_choice}
-use Rattle.vex_rows.proofs.Lists.{among-map, from-map, among-flat_map, from-flat_map, among-filter, from-filter, both-parts, parts-both, from-list_all, list_all-each}
+use Rattle.vex_rows.proofs.Lists.{among-map, from-map, among-flat_map, from-flat_map, among-filter, from-filter, both-parts, parts-both}
 
 -- all checks of an entry's form, in their order
 abbrev pub checks_of : Entry → List Check

@@ -4,3 +4,4 @@ pub mod Table
 pub mod Groups
 pub mod Row
 pub mod Tests
+pub mod Laws

@@ -55,8 +55,7 @@ group_opcode (g ∷ gs) (Some reg) announced = if g.0 == reg then g.1 else group
 
 -- whether a reg field is one of the groups
 abbrev pub is_group : List (ℕ × Opcode) → ℕ → Bool
-is_group [] reg = false
-is_group (g ∷ gs) reg = g.0 == reg || is_group gs reg
+is_group gs reg = list_any (λ g. g.0 == reg) gs
 
 -- whether a row's group field is one that its form allows, none where it has no groups
 abbrev pub group_allowed : Form → ℕ → Option ℕ → Bool

@@ -1,15 +1,13 @@
 -- What the forms and the table must be for the laws of spellings: tests that are computed.
-use Rattle.std.specs.Prelude.{ℕ, Bool, true, false, not, ◌&&◌, ◌||◌, nat_lt, ◌==◌, List, [], ◌∷◌, ◌++◌, map, filter, if◌then◌else◌}
+use Rattle.std.specs.Prelude.{Bool, true, false, not, ◌&&◌, ◌||◌, ◌==◌, List, [], ◌∷◌, ◌++◌, map, filter, if◌then◌else◌}
 use Rattle.std.specs.List.{list_all, list_any}
 use Rattle.vex_rows.specs.declared.entry.Entry.{Entry}
 use Rattle.vex_rows.specs.declared.entry.Rule.{Rule}
-use Rattle.vex_rows.specs.declared.entry.Rule.TheVariants.{Any, Zero, One}
-use Rattle.vex_rows.specs.declared.form.Form.{Form}
+use Rattle.vex_rows.specs.declared.entry.Rule.TheVariants.{Zero, One}
 use Rattle.vex_rows.specs.Rules.{map_number, pp_number}
 use Rattle.vex_rows.specs.declared.steps.Check.{Check}
 use Rattle.vex_rows.specs.declared.steps.Check.TheVariants.{V0, L0, Reg, Mem, Group, VifMem}
 use Rattle.vex_rows.specs.Steps.{FormSteps}
-use Rattle.vex_rows.specs.Groups.{groups}
 
 -- whether two rules allow one bit
 abbrev pub agree : Rule → Rule → Bool

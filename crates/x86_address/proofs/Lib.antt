@@ -5,3 +5,6 @@ pub mod PlaceBytes
 pub mod Shortest
 pub mod Examples
 pub mod Spelling
+pub mod Encodable
+pub mod Giving
+pub mod Taken

@@ -3,3 +3,6 @@ pub mod Place
 pub mod Shortest
 pub mod Reading
 pub mod Laws
+pub mod Spells
+pub mod Written
+pub mod Reads

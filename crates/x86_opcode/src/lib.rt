@@ -16,13 +16,14 @@ mod marked;
 mod tests;
 
 pub use condition::Condition;
-use list::ALL;
+use list::{ALL, FIRST_FLOAT, FIRST_FUSED, FIRST_INTEGER, FIRST_LEGACY, FIRST_MARKED};
 use std::fmt;
 
 /// An opcode: an enum of parts by subject, with one constant for each name, as `Opcode::VADDPS`.
-#[derive(Clone, Copy, PartialEq, Eq)]
+#[derive(Clone, Copy, PartialEq, Eq, Default)]
 pub enum Opcode {
     /// No instruction: what an entry announces where a group or the operand decides.
+    #[default]
     Invalid,
     /// Bit scan forward: what a `TZCNT` is without the setting `bmi1`.
     BSF,
@@ -62,15 +63,14 @@ impl Opcode {
         ensures below { result < 551 }
         ensures distinct { (other : Opcode) → opcode_number other ≡ result → other ≡ self }
     {
-        // The parts stand one after another.
         match self {
             Opcode::Invalid => 0,
             Opcode::BSF => 1,
-            Opcode::Legacy(part) => 2 + part as u16,
-            Opcode::Integer(part) => 172 + part as u16,
-            Opcode::Float(part) => 345 + part as u16,
-            Opcode::Fused(part) => 474 + part as u16,
-            Opcode::Marked(part) => 534 + part as u16,
+            Opcode::Legacy(part) => FIRST_LEGACY + part as u16,
+            Opcode::Integer(part) => FIRST_INTEGER + part as u16,
+            Opcode::Float(part) => FIRST_FLOAT + part as u16,
+            Opcode::Fused(part) => FIRST_FUSED + part as u16,
+            Opcode::Marked(part) => FIRST_MARKED + part as u16,
         }
     }
 

@@ -1,6 +1,17 @@
 // The list of all opcodes, written by tools/opcodes.py.
 use crate::Opcode;
 
+// The number of the first opcode of each part.
+pub(crate) const FIRST_LEGACY: u16 = 2;
+
+pub(crate) const FIRST_INTEGER: u16 = 172;
+
+pub(crate) const FIRST_FLOAT: u16 = 345;
+
+pub(crate) const FIRST_FUSED: u16 = 474;
+
+pub(crate) const FIRST_MARKED: u16 = 534;
+
 /// All opcodes, in the order of their numbers.
 pub(crate) static ALL: [Opcode; 551] = [
     Opcode::Invalid,

@@ -96,4 +96,5 @@ fn tells_opcodes_apart(rt: HostRuntime) {
         assert!(rt; opcode.is(opcode));
         assert!(rt; !opcode.is(Opcode::VADDPD), "{opcode}");
     }
+    assert!(rt; Opcode::default().is(Opcode::Invalid));
 }

@@ -17,6 +17,10 @@ MoreSettingsPermitMore =
     (s : List Bool) (i : ℕ) (opcode : Opcode) → IsTrue (is_vex opcode)
     → IsTrue (permits s false opcode) → IsTrue (permits (slice_set s i true) false opcode)
 
+-- an instruction with a VEX opcode keeps it
+abbrev pub VexOpcodesStay : Type 0
+VexOpcodesStay = (s : List Bool) (opcode : Opcode) → IsTrue (is_vex opcode) → revised s false opcode ≡ opcode
+
 -- where all bits are set, every instruction is permitted
 abbrev pub AllSettingsPermitAll : Type 0
 AllSettingsPermitAll = (mark : Bool) (opcode : Opcode) → IsTrue (permits (replicate 128 true) mark opcode)

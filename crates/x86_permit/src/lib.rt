@@ -2,7 +2,7 @@
 //! and the laws that hold of them.
 #![tactic(auto)]
 
-ghost use Rattle.x86_permit.specs.Laws.{AllSettingsPermitAll, LeastSettingsPermit, MoreSettingsPermitMore, OtherBitsChangeNothing};
+ghost use Rattle.x86_permit.specs.Laws.{AllSettingsPermitAll, LeastSettingsPermit, MoreSettingsPermitMore, OtherBitsChangeNothing, VexOpcodesStay};
 
 /// The law on least settings: an instruction with a VEX opcode is permitted exactly where all bits of
 /// its least settings are set.
@@ -13,6 +13,11 @@ pub fn least_settings_permit()
 /// The law on further settings: a bit more never makes an instruction with a VEX opcode refused.
 pub fn more_settings_permit_more()
     ensures { MoreSettingsPermitMore }
+{}
+
+/// The law on revision: an instruction with a VEX opcode keeps it under all settings.
+pub fn vex_opcodes_stay()
+    ensures { VexOpcodesStay }
 {}
 
 /// The law on all settings: where all 128 bits are set, each instruction is permitted.

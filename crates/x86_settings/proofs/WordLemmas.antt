@@ -10,6 +10,7 @@ use Rattle.std.proofs.lemmas.Nat.Bits.{bit_at_lowest, bit_at-suc, bit_at_set_sam
 use Rattle.x86_settings.specs.Bits.{is_set, with_set}
 use Rattle.x86_settings.specs.Words.{bits, word, length-bits, word-take, word-drop}
 
+-- a bit of a word, as shift and mask read it
 pub is_set-bits : (n w i : ℕ) → i < n → is_set (bits n w) i ≡ (bit_at w i == 1)
 unfolding bits
 is_set-bits zero w i h = absurd (omega arith)
@@ -30,20 +31,25 @@ bits-bit_or w i h =
       | inr other ↦ rw (bit_at_set_other w64 w i h k other, get_or-set_other (bits 64 w) i k true false other) (sym (is_set-bits 64 w k within))
     ]))
 
--- both words of the settings
+-- the bits of both words in a row
 module _ (low high : ℕ) where
+  -- there are 128
   pub length-both : length (bits 64 low ++ bits 64 high) ≡ 128
   length-both = length-append (bits 64 low) (bits 64 high) ∙ omega (arith, length-bits 64 low, length-bits 64 high)
 
+  -- the first 64 are those of the low word
   pub is_set-low : (i : ℕ) → i < 64 → is_set (bits 64 low ++ bits 64 high) i ≡ is_set (bits 64 low) i
   is_set-low i h = get_or_append_left (bits 64 low) (bits 64 high) false i (omega (arith, length-bits 64 low))
 
+  -- the others are those of the high word
   pub is_set-high : (i : ℕ) → 64 ≤ i → is_set (bits 64 low ++ bits 64 high) i ≡ is_set (bits 64 high) (i - 64)
   is_set-high i h = get_or-append_right (bits 64 low) (bits 64 high) 64 i false (length-bits 64 low) h
 
+  -- to set one of the first 64 changes the low word alone
   pub with_set-low : (i : ℕ) → i < 64 → with_set (bits 64 low ++ bits 64 high) i ≡ with_set (bits 64 low) i ++ bits 64 high
   with_set-low i h = set-append_left (bits 64 low) (bits 64 high) i true (omega (arith, length-bits 64 low))
 
+  -- and one of the others the high word alone
   pub with_set-high : (i : ℕ) → 64 ≤ i → with_set (bits 64 low ++ bits 64 high) i ≡ bits 64 low ++ with_set (bits 64 high) (i - 64)
   with_set-high i h = set-append_right (bits 64 low) (bits 64 high) 64 i true (length-bits 64 low) h
 

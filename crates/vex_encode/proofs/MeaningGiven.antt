@@ -1,0 +1,19 @@
+-- The meaning that is put together from a row's layout is the one that the row gives.
+use Rattle.std.specs.Prelude.{◌≡◌, ℕ, false, List, map}
+use Rattle.std.proofs.Common.{ap, ◌∙◌}
+use Rattle.x86_operand.specs.declared.register.RegisterBank.{RegisterBank}
+use Rattle.x86_operand.specs.Meaning.{OperandMeaning, Meaning}
+use Rattle.x86_address.specs.Place.{Target}
+use Rattle.vex_rows.specs.Row.{Row}
+use Rattle.vex_forms.specs.declared.row_layout.RowLayout.{RowLayout}
+use Rattle.vex_forms.specs.Layout.{IsLayout}
+use Rattle.vex_forms.specs.Slots.{index_bank, slots}
+use Rattle.vex_forms.specs.Gives.{gives, slot_operand}
+
+pub meaning_given : (row : Row) (layout : RowLayout) (r v reg : ℕ) (e : Target) (imm : ℕ) (operands : List OperandMeaning) → IsLayout row layout →
+  ((bank : RegisterBank) → operands ≡ map (slot_operand bank r v reg e imm) layout.slots.items) →
+  ◌≡◌ {A = Meaning} (record { evex = false; opcode = layout.opcode; operands = operands; size = layout.mem_size }) (gives row r v reg e imm)
+unfolding gives
+meaning_given row layout r v reg e imm operands is given =
+  let same : operands ≡ map (slot_operand (index_bank row) r v reg e imm) (slots row) = given (index_bank row) ∙ ap (map (slot_operand (index_bank row) r v reg e imm)) is.slots in
+  λ i. record { evex = false; opcode = is.opcode i; operands = same i; size = is.mem_size i }

@@ -1,0 +1,11 @@
+-- One more operand, and all of them.
+use Rattle.std.proofs.Common.{arith, rules}
+use Rattle.std.proofs.lemmas.Grind.{elements}
+use Rattle.vex_encode.proofs.Mapped.{mapped_more, mapped_all}
+use Rattle.vex_encode.proofs.operands.operands.Goals as goal
+
+pub loop-i-preserved : goal.loop-i-preserved
+loop-i-preserved c = λ index_bank. mapped_more _ _ c.loop-i.operands c.args.slots.now c.loop-i.i c.operand.result _ (search rules) c.loop-i-test.true (grind (arith, elements)) (c.loop-i.invariant index_bank) (c.operand.ensures index_bank)
+
+pub returns : goal.returns
+returns c = λ index_bank. mapped_all _ _ c.loop-i.operands c.args.slots.now c.loop-i.i (omega arith) (c.loop-i.invariant index_bank)

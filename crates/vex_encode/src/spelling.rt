@@ -1,0 +1,70 @@
+//! A spelling: the bytes of one instruction.
+
+ghost use Rattle.std.specs.Cmp.Lexicographic.{pointwise};
+ghost use Rattle.std.specs.Cmp.Rules.{comparing};
+ghost use Rattle.std.proofs.Common.{rules};
+ghost use Rattle.std.specs.Prelude.{nat_eq, ◌≡◌, ◌↔◌, IsTrue, [], ◌∷◌, ◌++◌, ◌<◌, ◌≤◌, length};
+
+use arrayvec::ArrayVec;
+use std::marker::Model;
+
+/// The greatest number of bytes of an instruction in VEX form: 3 of prefix, then opcode, ModRM, SIB, 4 of
+/// displacement and 1 of immediate (Intel SDM volume 2, section 2.3.11 and figure 2-8).
+pub const MAX_SPELLING: usize = 11;
+
+/// The bytes of one instruction, at most 11.
+#[derive(Debug, Drop)]
+pub struct Spelling {
+    bytes: ArrayVec<u8, MAX_SPELLING>,
+}
+
+impl Model for Spelling {
+    ghost use Rattle.std.specs.Prelude.{List, ℕ};
+
+    ghost Value = { List ℕ };
+
+    ghost view = { λ s. s.bytes.items };
+}
+
+impl Spelling {
+    /// No bytes yet.
+    pub(crate) fn new() -> Spelling
+        ensures { result ≡ [] }
+    {
+        Spelling {
+            bytes: ArrayVec::new(),
+        }
+    }
+
+    /// Appends a byte.
+    pub(crate) fn push(&mut self, byte: u8)
+        requires { length self.old < 11 }
+        ensures { self.new ≡ self.old ++ byte ∷ [] }
+    {
+        self.bytes.push(byte);
+    }
+
+    /// The bytes.
+    pub fn as_slice(&self) -> &[u8]
+        ensures bytes { result.now ≡ self.now }
+        ensures short { length result.now ≤ 11 }
+    {
+        self.bytes.as_slice()
+    }
+}
+
+impl PartialEq for Spelling {
+    ghost eq = { pointwise nat_eq };
+
+    ghost laws = { Prim.search (comparing, rules) };
+
+    fn eq(&self, other: &Spelling) -> bool
+        ensures same { IsTrue result ↔ (self.now ≡ other.now) }
+    {
+        self.as_slice() == other.as_slice()
+    }
+}
+
+impl Eq for Spelling {
+    ghost laws = { Prim.search (comparing, rules) };
+}

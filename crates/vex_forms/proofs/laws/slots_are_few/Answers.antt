@@ -1,0 +1,5 @@
+use Rattle.vex_forms.proofs.Sound.{few_slots}
+use Rattle.vex_forms.proofs.laws.slots_are_few.Goals as goal
+
+pub returns : goal.returns
+returns c = few_slots

@@ -1,0 +1,5 @@
+use Rattle.vex_forms.proofs.Sound.{sound}
+use Rattle.vex_forms.proofs.laws.slots_fit_steps.Goals as goal
+
+pub returns : goal.returns
+returns c = λ row. sound row.entry.form row

@@ -1,0 +1,5 @@
+use Rattle.vex_rows.proofs.Forms.{orderly}
+use Rattle.vex_rows.proofs.laws.forms_are_orderly.Goals as goal
+
+pub returns : goal.returns
+returns c = orderly

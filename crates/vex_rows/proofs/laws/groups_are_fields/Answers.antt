@@ -1,0 +1,5 @@
+use Rattle.vex_rows.proofs.Forms.{small_group}
+use Rattle.vex_rows.proofs.laws.groups_are_fields.Goals as goal
+
+pub returns : goal.returns
+returns c = small_group

@@ -1,0 +1,5 @@
+use Rattle.vex_rows.proofs.Forms.{one_entry}
+use Rattle.vex_rows.proofs.laws.keys_are_apart.Goals as goal
+
+pub returns : goal.returns
+returns c = one_entry

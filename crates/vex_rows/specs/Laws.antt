@@ -1,0 +1,24 @@
+-- Laws of the entries and of the forms: each is the contract of a function in the module `laws`.
+use Rattle.std.specs.Prelude.{◌≡◌, ℕ, ◌<◌, true}
+use Rattle.x86_opcode.specs.declared.Opcode.{Opcode}
+use Rattle.vex_rows.specs.declared.entry.Entry.{Entry}
+use Rattle.vex_rows.specs.declared.form.Form.{Form}
+use Rattle.vex_rows.specs.declared.key.Key.{Key}
+use Rattle.vex_rows.specs.Rules.{has_key}
+use Rattle.vex_rows.specs.Steps.{steps}
+use Rattle.vex_rows.specs.Groups.{groups}
+use Rattle.vex_rows.specs.Table.{table}
+use Rattle.vex_rows.specs.Row.{Among}
+use Rattle.vex_rows.specs.Tests.{is_orderly}
+
+-- two entries of the table that have one key are one
+abbrev pub KeysAreApart : Type 0
+KeysAreApart = (a b : Entry) (key : Key) → Among a table → Among b table → has_key a key ≡ true → has_key b key ≡ true → a ≡ b
+
+-- the steps of every form are in order
+abbrev pub FormsAreOrderly : Type 0
+FormsAreOrderly = (form : Form) → is_orderly (steps form) ≡ true
+
+-- every group is a value of a field of three bits
+abbrev pub GroupsAreFields : Type 0
+GroupsAreFields = (form : Form) (l : ℕ) (group : ℕ × Opcode) → Among group (groups form l) → group.0 < 8

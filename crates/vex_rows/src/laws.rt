@@ -1,0 +1,21 @@
+//! Laws of the entries and of the forms, over the definitions alone: each function's contract is a law, and its body is
+//! empty.
+
+ghost use Rattle.vex_rows.specs.Laws.{KeysAreApart, FormsAreOrderly, GroupsAreFields};
+
+/// Of all entries at most one has a key.
+pub fn keys_are_apart()
+    ensures { KeysAreApart }
+{}
+
+/// The steps of every form are in order: checks of prefix fields, ModRM, checks of ModRM, the address, and late checks.
+/// A form without ModRM checks and reads nothing of it, and one that reads no address checks that its operand is a
+/// register.
+pub fn forms_are_orderly()
+    ensures { FormsAreOrderly }
+{}
+
+/// Every group of every form is a value of the field reg: it is below 8.
+pub fn groups_are_fields()
+    ensures { GroupsAreFields }
+{}

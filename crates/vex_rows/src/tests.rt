@@ -1,0 +1,109 @@
+use crate::Check::{Group, L0, Mem, Reg, V0, VifMem};
+use crate::{Check, Form, Key, Map, Pp, entry_at, entry_count, groups_of, laws, lookup, steps_of};
+use std::test::Fail;
+use x86_operand::Opcode;
+
+#[test]
+fn keys_have_their_entries(rt: HostRuntime) -> Result<(), Fail> {
+    for (map, pp, byte, opcode) in [
+        (Map::Map0F, Pp::Plain, 0x28, Some(Opcode::VMOVAPS)),
+        (Map::Map0F, Pp::Plain, 0x29, Some(Opcode::VMOVAPS)),
+        (Map::Map0F, Pp::Plain, 0x27, None),
+        (Map::Map0F, Pp::PrefixF3, 0x28, None),
+        (Map::Map0F38, Pp::Plain, 0x29, None),
+    ] {
+        for (w, l) in [(false, false), (false, true), (true, false), (true, true)] {
+            let key = Key {
+                map,
+                pp,
+                byte,
+                w,
+                l,
+            };
+            let found = lookup(&key).map(|entry| entry.opcode);
+            assert_eq!(rt; found, opcode, "{key:?}");
+        }
+    }
+    Ok(())
+}
+
+#[test]
+fn each_entry_is_found_by_its_keys(rt: HostRuntime) -> Result<(), Fail> {
+    assert!(rt; entry_count() > 0);
+    for i in 0..entry_count() {
+        let entry = entry_at(i);
+        for (w, l) in [(false, false), (false, true), (true, false), (true, true)] {
+            let key = Key {
+                map: entry.map,
+                pp: entry.pp,
+                byte: entry.byte,
+                w,
+                l,
+            };
+            if entry.w.allows(w) && entry.l.allows(l) {
+                assert!(rt; entry.has_key(&key));
+                assert_eq!(rt; lookup(&key), Some(entry));
+            }
+        }
+    }
+    Ok(())
+}
+
+#[test]
+fn forms_have_the_steps_of_the_manual(rt: HostRuntime) -> Result<(), Fail> {
+    let wanted: [(Form, &[Check], bool, &[Check], bool, &[Check], bool); 12] = [
+        (Form::Nothing, &[V0], false, &[], false, &[], false),
+        (Form::VPS_72, &[], true, &[Reg, Group], false, &[], true),
+        (Form::VMOVSS_11, &[], true, &[], true, &[VifMem], false),
+        (Form::VMOVLPS_12, &[], true, &[], true, &[], false),
+        (Form::M_G_xmm, &[V0], true, &[Mem], true, &[], false),
+        (Form::Gd_U_xmm, &[V0], true, &[], true, &[Reg], false),
+        (Form::Ud_G_xmm_imm8, &[V0], true, &[], true, &[Reg], true),
+        (Form::G_E_xmm_imm8, &[V0, L0], true, &[], true, &[], true),
+        (Form::M_V_G_ymm, &[], true, &[Mem], true, &[], false),
+        (Form::G_E_Ib, &[], true, &[], true, &[], true),
+        (Form::BMI1_F3, &[], true, &[Group], true, &[], false),
+        (Form::MXCSR, &[], true, &[Group, Mem], true, &[], false),
+    ];
+    for (form, first, modrm, second, address, third, imm) in wanted {
+        let steps = steps_of(form);
+        assert_eq!(rt; steps.first, first, "{form:?}");
+        assert_eq!(rt; steps.modrm, modrm, "{form:?}");
+        assert_eq!(rt; steps.second, second, "{form:?}");
+        assert_eq!(rt; steps.address, address, "{form:?}");
+        assert_eq!(rt; steps.third, third, "{form:?}");
+        assert_eq!(rt; steps.imm, imm, "{form:?}");
+    }
+    Ok(())
+}
+
+#[test]
+fn forms_have_the_groups_of_the_manual(rt: HostRuntime) -> Result<(), Fail> {
+    for (form, l, reg, opcode) in [
+        (Form::VPS_71, false, 1, Some(Opcode::VPSLLW)),
+        (Form::VPS_71, true, 1, None),
+        (Form::VPS_71, true, 6, Some(Opcode::VPSLLW)),
+        (Form::VPS_71, true, 4, Some(Opcode::VPSRAW)),
+        (Form::VPS_72, false, 2, Some(Opcode::VPSRLD)),
+        (Form::VPS_73, true, 7, Some(Opcode::VPSLLDQ)),
+        (Form::VPS_73, true, 4, None),
+        (Form::BMI1_F3, false, 3, Some(Opcode::BLSI)),
+        (Form::MXCSR, false, 3, Some(Opcode::VSTMXCSR)),
+        (Form::G_V_E, false, 1, None),
+    ] {
+        let groups = groups_of(form, l);
+        let found = groups
+            .iter()
+            .find(|group| group.0 == reg)
+            .map(|group| group.1);
+        assert_eq!(rt; found, opcode, "{form:?} {reg}");
+    }
+    Ok(())
+}
+
+#[test]
+fn laws_can_be_called() {
+    laws::keys_are_apart();
+    laws::forms_are_orderly();
+    laws::groups_are_fields();
+}

@@ -1,0 +1,52 @@
+-- A piece of the input, byte by byte.
+use Rattle.std.proofs.Common.{◌≡◌, ℕ, ◌+◌, ◌<◌, List, [], ◌∷◌, ◌++◌, length, get_or, take, drop, Option, Result, Ok, Err, sym, ap, ◌∙◌, refl, subst}
+use Rattle.std.proofs.lemmas.List.{append_assoc, take-append-drop, drop_more, take_more}
+use Rattle.std.specs.Io.KnownBytes.{Appends}
+use Rattle.vex_tool.specs.Ends.{AppendsFront, RoseOrIsLast, Writes}
+use Rattle.vex_tool.specs.LineMachine.{stepped, line_after, ended_at, ended}
+use Rattle.vex_tool.proofs.EndsLemmas.{Appends-none, Appends-then, AppendsFront-then, AppendsFront-more}
+use Rattle.vex_tool.proofs.LineMachineLemmas.{line_after-append, line_after-one, ended-append, ended-one}
+
+-- what a sink tells: its bytes and its count of faults
+pub record Told : Type 0 where
+  pub text : Option (List ℕ)
+  pub faults : ℕ
+
+-- the bytes of the front were taken, from a line and a sink as these were first to what they are now
+pub record Fed (f : List ℕ → List ℕ) (first : Option (List ℕ)) (sink : Told) (front : List ℕ) (line : Option (List ℕ)) (now : Told) : Type 0 where
+  pub kept : line ≡ line_after first front
+  pub written : Appends sink.text now.text (ended f first front)
+  pub quiet : now.faults ≡ sink.faults
+
+module _ (f : List ℕ → List ℕ) (first : Option (List ℕ)) (sink : Told) where
+  pub Fed-none : Fed f first sink [] first sink
+  unfolding line_after ended
+  Fed-none = record { kept = refl; written = Appends-none sink.text; quiet = refl }
+
+  -- what was written, with what one more byte gives
+  ended-more : (front : List ℕ) (line : Option (List ℕ)) (b : ℕ) → line ≡ line_after first front
+      → ended f first (front ++ b ∷ []) ≡ ended f first front ++ ended_at f line b
+  ended-more front line b kept =
+      ended-append f first front (b ∷ [])
+      ∙ ap (λ t. ended f first front ++ t) (ended-one f (line_after first front) b ∙ ap (λ k. ended_at f k b) (sym kept))
+
+  pub Fed-step : (front : List ℕ) (line next : Option (List ℕ)) (now new : Told) (b : ℕ) → Fed f first sink front line now
+      → next ≡ stepped line b → Appends now.text new.text (ended_at f line b) → new.faults ≡ now.faults
+      → Fed f first sink (front ++ b ∷ []) next new
+  Fed-step front line next now new b fed kept written quiet = record {
+    kept = kept ∙ ap (λ k. stepped k b) fed.kept ∙ sym (line_after-append first front (b ∷ []) ∙ line_after-one (line_after first front) b);
+    written = rw (ended-more front line b fed.kept) (Appends-then sink.text now.text new.text _ _ fed.written written);
+    quiet = quiet ∙ fed.quiet;
+  }
+
+  -- a write failed at a byte of the piece
+  pub Fed-fault : (front piece rest : List ℕ) (line : Option (List ℕ)) (now : Told) (new : Option (List ℕ)) (b : ℕ) → Fed f first sink front line now
+      → piece ≡ (front ++ b ∷ []) ++ rest → AppendsFront now.text new (ended_at f line b)
+      → AppendsFront sink.text new (ended f first piece)
+  Fed-fault front piece rest line now new b fed split written =
+      rw (split, ended-append f first (front ++ b ∷ []) rest, ended-more front line b fed.kept)
+      (AppendsFront-more sink.text new _ _ (AppendsFront-then sink.text now.text new _ _ fed.written written))
+
+-- a list round its element at i
+pub split_at : (xs : List ℕ) (i : ℕ) → i < length xs → xs ≡ (take i xs ++ get_or xs i 0 ∷ []) ++ drop (i + 1) xs
+split_at xs i h = sym (take-append-drop (i + 1) xs) ∙ ap (λ t. t ++ drop (i + 1) xs) (take_more xs i 0 h)

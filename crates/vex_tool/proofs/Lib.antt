@@ -1,0 +1,6 @@
+pub mod EndsLemmas
+pub mod ReportLemmas
+pub mod LineMachineLemmas
+pub mod FeedLemmas
+pub mod RunLemmas
+pub mod RunClauses

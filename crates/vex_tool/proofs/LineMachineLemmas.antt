@@ -1,0 +1,273 @@
+-- The machine of the line buffer does what the lines of all bytes say, whatever a line gives.
+use Rattle.std.proofs.Common.{◌≡◌, ℕ, ◌<◌, ◌≤◌, Bool, true, false, cond, eqb, leb, ltb, List, [], ◌∷◌, ◌++◌, length, Option, Some, None, ◌⊎◌, inl, inr, sym, ap, ◌∙◌, refl, arith}
+use Rattle.std.proofs.lemmas.Bool.Decides.{nat_tests}
+use Rattle.std.proofs.lemmas.List.{append-nil, append_assoc, length_push}
+use Rattle.std.proofs.lemmas.Bool.{cases_lt}
+use Rattle.std.specs.List.{flat_map}
+use Rattle.vex_tool.specs.Lines.{lines, whole, onto_first, onto_whole}
+use Rattle.vex_tool.specs.LineMachine.{pushed, stepped, line_after, long_line, kept_report, ended_at, ended, last}
+
+-- ---- one piece after another
+
+pub line_after-append : (kept : Option (List ℕ)) (a b : List ℕ) → line_after kept (a ++ b) ≡ line_after (line_after kept a) b
+unfolding line_after
+line_after-append kept [] b = refl
+line_after-append kept (x ∷ a) b = line_after-append (stepped kept x) a b
+
+pub line_after-one : (kept : Option (List ℕ)) (b : ℕ) → line_after kept (b ∷ []) ≡ stepped kept b
+unfolding line_after
+line_after-one kept b = refl
+
+-- ---- a test of a byte, as two cases
+
+either : (b : Bool) → (b ≡ true) ⊎ (b ≡ false)
+either true = inl refl
+either false = inr refl
+
+stepped-end : (kept : Option (List ℕ)) (b : ℕ) → eqb b 10 ≡ true → stepped kept b ≡ Some []
+unfolding stepped
+stepped-end kept b e = ap (λ (t : Bool). cond t (Some []) (pushed kept b)) e
+
+stepped-inside : (kept : Option (List ℕ)) (b : ℕ) → eqb b 10 ≡ false → stepped kept b ≡ pushed kept b
+unfolding stepped
+stepped-inside kept b e = ap (λ (t : Bool). cond t (Some []) (pushed kept b)) e
+
+lines-end : (b : ℕ) (bs : List ℕ) → eqb b 10 ≡ true → lines (b ∷ bs) ≡ [] ∷ lines bs
+unfolding lines
+lines-end b bs e = ap (λ (t : Bool). cond t ([] ∷ lines bs) (onto_first b (lines bs))) e
+
+lines-inside : (b : ℕ) (bs : List ℕ) → eqb b 10 ≡ false → lines (b ∷ bs) ≡ onto_first b (lines bs)
+unfolding lines
+lines-inside b bs e = ap (λ (t : Bool). cond t ([] ∷ lines bs) (onto_first b (lines bs))) e
+
+-- ---- the bytes up to the last line end
+
+onto_whole-end : (b : ℕ) → eqb b 10 ≡ true → onto_whole b [] ≡ b ∷ []
+onto_whole-end b e = ap (λ (t : Bool). cond t (b ∷ []) []) e
+
+onto_whole-inside : (b : ℕ) → eqb b 10 ≡ false → onto_whole b [] ≡ []
+onto_whole-inside b e = ap (λ (t : Bool). cond t (b ∷ []) []) e
+
+-- the bytes are none, or the next line begins after them
+abbrev EndsLines : List ℕ → Type 0
+EndsLines bs = (bs ≡ []) ⊎ ((kept : Option (List ℕ)) → line_after kept bs ≡ Some [])
+
+EndsLines-onto_whole : (b : ℕ) (front : List ℕ) → EndsLines front → EndsLines (onto_whole b front)
+unfolding line_after
+EndsLines-onto_whole b [] h = elim (either (eqb b 10)) [
+  | inl e ↦ inr (λ kept. ap (line_after kept) (onto_whole-end b e) ∙ stepped-end kept b e)
+  | inr e ↦ inl (onto_whole-inside b e)
+]
+EndsLines-onto_whole b (c ∷ cs) h = elim h [
+  | inl none ↦ cc
+  | inr ends ↦ inr (λ kept. ends (stepped kept b))
+]
+
+EndsLines-whole : (bs : List ℕ) → EndsLines (whole bs)
+unfolding whole
+EndsLines-whole [] = inl refl
+EndsLines-whole (b ∷ bs) = EndsLines-onto_whole b (whole bs) (EndsLines-whole bs)
+
+-- no line is left unfinished
+line_after-whole : (bs : List ℕ) → line_after (Some []) (whole bs) ≡ Some []
+unfolding line_after
+line_after-whole bs = elim (EndsLines-whole bs) [
+  | inl none ↦ ap (line_after (Some [])) none
+  | inr ends ↦ ends (Some [])
+]
+
+-- ---- what is kept of a line
+
+-- what is kept of a whole line
+abbrev kept_of : List ℕ → Option (List ℕ)
+kept_of line = cond (leb (length line) 8192) (Some line) None
+
+kept_of-short : (line : List ℕ) → length line ≤ 8192 → kept_of line ≡ Some line
+kept_of-short line h = grind (arith, nat_tests)
+
+kept_of-long : (line : List ℕ) → 8192 < length line → kept_of line ≡ None
+kept_of-long line h = grind (arith, nat_tests)
+
+pushed-room : (line : List ℕ) (b : ℕ) → length line < 8192 → pushed (Some line) b ≡ Some (line ++ b ∷ [])
+unfolding pushed
+pushed-room line b h = grind (arith, nat_tests)
+
+pushed-full : (line : List ℕ) (b : ℕ) → 8192 ≤ length line → pushed (Some line) b ≡ None
+unfolding pushed
+pushed-full line b h = grind (arith, nat_tests)
+
+pushed-none : (b : ℕ) → pushed None b ≡ None
+unfolding pushed
+pushed-none b = refl
+
+pushed-kept_of : (line : List ℕ) (b : ℕ) → pushed (kept_of line) b ≡ kept_of (line ++ b ∷ [])
+pushed-kept_of line b =
+    let more = length_push line b in
+    elim (cases_lt (length line) 8192) [
+      | inl room ↦ rw (kept_of-short line (omega arith), kept_of-short (line ++ b ∷ []) (omega arith)) (pushed-room line b room)
+      | inr full ↦ elim (cases_lt 8192 (length line)) [
+        | inl long ↦ rw (kept_of-long line long, kept_of-long (line ++ b ∷ []) (omega arith)) (pushed-none b)
+        | inr short ↦ rw (kept_of-short line short, kept_of-long (line ++ b ∷ []) (omega arith)) (pushed-full line b full)
+      ]
+    ]
+
+-- ---- a line begun before the others
+
+-- the lines, with some bytes before the first of them
+abbrev onto : List ℕ → List (List ℕ) → List (List ℕ)
+onto [] [] = []
+onto (x ∷ xs) [] = (x ∷ xs) ∷ []
+onto front (l ∷ ls) = (front ++ l) ∷ ls
+
+onto-none : (ls : List (List ℕ)) → onto [] ls ≡ ls
+onto-none [] = refl
+onto-none (l ∷ ls) = refl
+
+onto-some : (front l : List ℕ) (ls : List (List ℕ)) → onto front (l ∷ ls) ≡ (front ++ l) ∷ ls
+onto-some [] l ls = refl
+onto-some (x ∷ xs) l ls = refl
+
+onto-push : (front : List ℕ) (b : ℕ) → onto (front ++ b ∷ []) [] ≡ (front ++ b ∷ []) ∷ []
+onto-push [] b = refl
+onto-push (x ∷ xs) b = refl
+
+onto-onto_first : (front : List ℕ) (b : ℕ) (ls : List (List ℕ)) → onto front (onto_first b ls) ≡ onto (front ++ b ∷ []) ls
+onto-onto_first front b [] = onto-some front (b ∷ []) [] ∙ sym (onto-push front b)
+onto-onto_first front b (l ∷ ls) =
+    onto-some front (b ∷ l) ls
+    ∙ ap (λ t. t ∷ ls) (sym (append_assoc front (b ∷ []) l))
+    ∙ sym (onto-some (front ++ b ∷ []) l ls)
+
+-- every line that is too long gives the same
+pub record SameForLong (f : List ℕ → List ℕ) : Type 0 where
+  pub same : (line : List ℕ) → 8192 < length line → f line ≡ long_line
+
+module _ (f : List ℕ → List ℕ) where
+  pub ended-append : (kept : Option (List ℕ)) (a b : List ℕ) → ended f kept (a ++ b) ≡ ended f kept a ++ ended f (line_after kept a) b
+  unfolding ended line_after
+  ended-append kept [] b = refl
+  ended-append kept (x ∷ a) b =
+      ap (λ t. ended_at f kept x ++ t) (ended-append (stepped kept x) a b)
+      ∙ sym (append_assoc (ended_at f kept x) (ended f (stepped kept x) a) (ended f (line_after (stepped kept x) a) b))
+
+  pub ended-one : (kept : Option (List ℕ)) (b : ℕ) → ended f kept (b ∷ []) ≡ ended_at f kept b
+  unfolding ended
+  ended-one kept b = append-nil (ended_at f kept b)
+
+  ended_at-end : (kept : Option (List ℕ)) (b : ℕ) → eqb b 10 ≡ true → ended_at f kept b ≡ kept_report f kept
+  unfolding ended_at
+  ended_at-end kept b e = ap (λ (t : Bool). cond t (kept_report f kept) []) e
+
+  ended_at-inside : (kept : Option (List ℕ)) (b : ℕ) → eqb b 10 ≡ false → ended_at f kept b ≡ []
+  unfolding ended_at
+  ended_at-inside kept b e = ap (λ (t : Bool). cond t (kept_report f kept) []) e
+
+  -- nothing is left, or a line
+  pub last-empty : (kept : Option (List ℕ)) → kept ≡ Some [] → last f kept ≡ []
+  unfolding last
+  last-empty kept e = ap (last f) e
+
+  pub last-some : (kept : Option (List ℕ)) → (kept ≡ Some [] → ⊥) → last f kept ≡ kept_report f kept
+  unfolding last
+  last-some None h = refl
+  last-some (Some []) h = absurd (h refl)
+  last-some (Some (x ∷ xs)) h = refl
+
+  -- bytes up to their last line end have the same ended lines
+  ended-onto_whole : (kept : Option (List ℕ)) (b : ℕ) (front bs : List ℕ) → ended f (stepped kept b) front ≡ ended f (stepped kept b) bs
+      → ended f kept (onto_whole b front) ≡ ended_at f kept b ++ ended f (stepped kept b) bs
+  unfolding ended
+  ended-onto_whole kept b [] bs h = elim (either (eqb b 10)) [
+    | inl e ↦ ap (ended f kept) (onto_whole-end b e) ∙ ap (λ t. ended_at f kept b ++ t) h
+    | inr e ↦ ap (ended f kept) (onto_whole-inside b e) ∙ h ∙ ap (λ t. t ++ ended f (stepped kept b) bs) (sym (ended_at-inside kept b e))
+  ]
+  ended-onto_whole kept b (c ∷ cs) bs h = ap (λ t. ended_at f kept b ++ t) h
+
+  pub ended-whole : (kept : Option (List ℕ)) (bs : List ℕ) → ended f kept (whole bs) ≡ ended f kept bs
+  unfolding ended whole
+  ended-whole kept [] = refl
+  ended-whole kept (b ∷ bs) = ended-onto_whole kept b (whole bs) bs (ended-whole (stepped kept b) bs)
+
+  module _ (long : SameForLong f) where
+    kept_report-kept_of : (line : List ℕ) → kept_report f (kept_of line) ≡ f line
+    kept_report-kept_of line =
+        elim (cases_lt 8192 (length line)) [
+          | inl h ↦ rw (kept_of-long line h) (sym (long.same line h))
+          | inr h ↦ rw (kept_of-short line h) refl
+        ]
+
+    -- what is left at the end of the bytes is a line, unless it is empty
+    last-kept_of : (line : List ℕ) → flat_map f (onto line []) ≡ last f (kept_of line)
+    unfolding last
+    last-kept_of [] = refl
+    last-kept_of (x ∷ xs) =
+        append-nil (f (x ∷ xs))
+        ∙ elim (cases_lt 8192 (length (x ∷ xs))) [
+          | inl h ↦ long.same (x ∷ xs) h ∙ ap (last f) (sym (kept_of-long (x ∷ xs) h))
+          | inr h ↦ ap (last f) (sym (kept_of-short (x ∷ xs) h))
+        ]
+
+    -- what more bytes give on a line that is kept so
+    abbrev from_kept : Option (List ℕ) → List ℕ → List ℕ
+    from_kept kept bs = ended f kept bs ++ last f (line_after kept bs)
+
+    from_kept-step : (kept : Option (List ℕ)) (b : ℕ) (bs : List ℕ)
+        → from_kept kept (b ∷ bs) ≡ ended_at f kept b ++ from_kept (stepped kept b) bs
+    unfolding ended line_after
+    from_kept-step kept b bs = append_assoc (ended_at f kept b) (ended f (stepped kept b) bs) (last f (line_after (stepped kept b) bs))
+
+    output-end : (line : List ℕ) (b : ℕ) (bs : List ℕ) → eqb b 10 ≡ true
+        → flat_map f (onto line (lines (b ∷ bs))) ≡ f line ++ flat_map f (lines bs)
+    output-end line b bs e =
+        ap (λ ls. flat_map f (onto line ls)) (lines-end b bs e)
+        ∙ ap (flat_map f) (onto-some line [] (lines bs))
+        ∙ ap (λ l. f l ++ flat_map f (lines bs)) (append-nil line)
+
+    from_kept-end : (line : List ℕ) (b : ℕ) (bs : List ℕ) → eqb b 10 ≡ true
+        → from_kept (kept_of line) (b ∷ bs) ≡ f line ++ from_kept (Some []) bs
+    from_kept-end line b bs e =
+        from_kept-step (kept_of line) b bs
+        ∙ ap (λ k. ended_at f (kept_of line) b ++ from_kept k bs) (stepped-end (kept_of line) b e)
+        ∙ ap (λ t. t ++ from_kept (Some []) bs) (ended_at-end (kept_of line) b e ∙ kept_report-kept_of line)
+
+    output-inside : (line : List ℕ) (b : ℕ) (bs : List ℕ) → eqb b 10 ≡ false
+        → flat_map f (onto line (lines (b ∷ bs))) ≡ flat_map f (onto (line ++ b ∷ []) (lines bs))
+    output-inside line b bs e =
+        ap (λ ls. flat_map f (onto line ls)) (lines-inside b bs e)
+        ∙ ap (flat_map f) (onto-onto_first line b (lines bs))
+
+    from_kept-inside : (line : List ℕ) (b : ℕ) (bs : List ℕ) → eqb b 10 ≡ false
+        → from_kept (kept_of line) (b ∷ bs) ≡ from_kept (kept_of (line ++ b ∷ [])) bs
+    from_kept-inside line b bs e =
+        from_kept-step (kept_of line) b bs
+        ∙ ap (λ t. t ++ from_kept (stepped (kept_of line) b) bs) (ended_at-inside (kept_of line) b e)
+        ∙ ap (λ k. from_kept k bs) (stepped-inside (kept_of line) b e ∙ pushed-kept_of line b)
+
+    -- what the lines of all bytes give, the first of them begun already
+    output-from : (line bs : List ℕ) → flat_map f (onto line (lines bs)) ≡ from_kept (kept_of line) bs
+    unfolding ended line_after lines
+    output-from line [] = last-kept_of line
+    output-from line (b ∷ bs) =
+        elim (either (eqb b 10)) [
+          | inl e ↦
+              output-end line b bs e
+              ∙ ap (λ t. f line ++ t) (ap (flat_map f) (sym (onto-none (lines bs))) ∙ output-from [] bs)
+              ∙ sym (from_kept-end line b bs e)
+          | inr e ↦
+              output-inside line b bs e
+              ∙ output-from (line ++ b ∷ []) bs
+              ∙ sym (from_kept-inside line b bs e)
+        ]
+
+    -- what the lines give that bytes end, and then their last line
+    pub output-ended : (bs : List ℕ) → flat_map f (lines bs) ≡ ended f (Some []) bs ++ last f (line_after (Some []) bs)
+    output-ended bs = ap (flat_map f) (sym (onto-none (lines bs))) ∙ output-from [] bs
+
+    -- up to their last line end, bytes give what their ended lines give
+    pub output-whole : (bs : List ℕ) → flat_map f (lines (whole bs)) ≡ ended f (Some []) bs
+    unfolding last
+    output-whole bs =
+        output-ended (whole bs)
+        ∙ ap (λ k. ended f (Some []) (whole bs) ++ last f k) (line_after-whole bs)
+        ∙ append-nil (ended f (Some []) (whole bs))
+        ∙ ended-whole (Some []) bs

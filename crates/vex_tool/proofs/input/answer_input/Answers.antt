@@ -1,0 +1,71 @@
+use Rattle.std.proofs.Common.{◌≡◌, ◌<◌, ◌≤◌, length, take, length-take, arith}
+use Rattle.std.proofs.lemmas.List.{length-take-le}
+use Rattle.vex_tool.proofs.ReportLemmas.{SameForLong-report}
+use Rattle.vex_tool.proofs.RunLemmas.{Going-first, Going-step, Gave-read, Gave-none, Ran-read_fault, Ran-done, Ran-finish_fault, Ran-too_long, Ran-feed_fault}
+use Rattle.vex_tool.proofs.input.answer_input.Goals as goal
+
+pub loop-line-init : goal.loop-line-init
+loop-line-init g c = rw c.new-line.ensures (Going-first _ _)
+
+pub returns-in-Err : goal.returns-in-Err
+returns-in-Err g c =
+    let read = c.in-Err.ensures in
+    Ran-read_fault _ _ _ _ _ c.loop-line.invariant (SameForLong-report _) _ _ _ read.keeps read.keeps_number read.cause
+
+pub returns-in-Ok-finish : goal.returns-in-Ok-finish
+returns-in-Ok-finish g c =
+    let read = c.in-Ok-eq0.ensures in
+    let none = c.in-Ok-eq0.field-0-test in
+    let written = c.in-Ok-finish.ensures in
+    Ran-done _ _ _ _ _ c.loop-line.invariant (SameForLong-report _) _ _ _
+    (Gave-none _ _ _ _ _ c.read.new.into none read.takes read.counts read.quiet)
+    (read.end cc) written.appends written.quiet
+
+pub returns-in-Err-finish : goal.returns-in-Err-finish
+returns-in-Err-finish g c =
+    let read = c.in-Ok-eq0.ensures in
+    let none = c.in-Ok-eq0.field-0-test in
+    let written = c.in-Err-finish.ensures in
+    Ran-finish_fault _ _ _ _ _ c.loop-line.invariant (SameForLong-report _) _ _ _
+    (Gave-none _ _ _ _ _ c.read.new.into none read.takes read.counts read.quiet)
+    written.front written.cause
+
+pub returns-in-Ok : goal.returns-in-Ok
+returns-in-Ok g c =
+    let read = c.in-Ok.ensures in
+    let n = c.in-Ok.field-0 in
+    let same = c.read.auto.into in
+    let asked = length-take c.wanted.result c.loop-line.buffer in
+    let fits : n ≤ length c.read.new.into = omega arith in
+    let one : n ≡ 1 = omega (arith, c.wanted.ensures.at_limit c.if-room-eq0.true) in
+    Ran-too_long _ _ _ _ _ c.loop-line.invariant (SameForLong-report _) _ _
+    (Gave-read _ _ _ _ _ c.read.new.into fits read.takes read.counts read.quiet)
+    c.if-room-eq0.true (rw (length-take-le n c.read.new.into fits) one)
+
+pub returns-in-Err-feed : goal.returns-in-Err-feed
+returns-in-Err-feed g c =
+    let read = c.in-Ok.ensures in
+    let n = c.in-Ok.field-0 in
+    let same = c.read.auto.into in
+    let asked = length-take c.wanted.result c.loop-line.buffer in
+    let fits : n ≤ length c.read.new.into = omega arith in
+    let within : n ≤ c.loop-line.room = omega (arith, c.wanted.ensures.to_limit (omega arith)) in
+    let written = c.in-Err-feed.ensures.written in
+    Ran-feed_fault _ _ _ _ _ c.loop-line.invariant (SameForLong-report _) _ _ _ _
+    (Gave-read _ _ _ _ _ c.read.new.into fits read.takes read.counts read.quiet)
+    (rw (length-take-le n c.read.new.into fits) within) written.front written.cause
+
+pub loop-line-preserved : goal.loop-line-preserved
+loop-line-preserved g c =
+    let read = c.in-Ok.ensures in
+    let n = c.in-Ok.field-0 in
+    let same = c.read.auto.into in
+    let asked = length-take c.wanted.result c.loop-line.buffer in
+    let fits : n ≤ length c.read.new.into = omega arith in
+    let len = length-take-le n c.read.new.into fits in
+    let within : n ≤ c.loop-line.room = omega (arith, c.wanted.ensures.to_limit (omega arith)) in
+    let fed = c.in_default.ensures in
+    rw len at
+    (Going-step _ _ _ _ _ c.loop-line.invariant _ _ _ _ _
+    (Gave-read _ _ _ _ _ c.read.new.into fits read.takes read.counts read.quiet)
+    (omega arith) (rw len within) fed.kept fed.written.appends fed.written.quiet)

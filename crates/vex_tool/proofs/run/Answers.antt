@@ -1,0 +1,34 @@
+use Rattle.std.proofs.Common.{sym}
+use Rattle.vex_tool.proofs.RunClauses.{IfSome-at, done_written, too_long, too_long_by_number, too_long_exactly, after_read_fault, after_write_fault, after_too_long, completes, completes_by_number}
+use Rattle.vex_tool.proofs.run.Goals as goal
+
+pub returns-in-Some-clause-done_written : goal.returns-in-Some-clause-done_written
+returns-in-Some-clause-done_written g c = λ e.
+    IfSome-at _ _ _ (sym c.in-Some.ensures) (done_written _ _ _ _ c.answer_input.ensures e)
+
+pub returns-in-Some-clause-too_long : goal.returns-in-Some-clause-too_long
+returns-in-Some-clause-too_long g c = too_long _ _ _ _ c.answer_input.ensures
+
+pub returns-in-Some-clause-too_long_by_number : goal.returns-in-Some-clause-too_long_by_number
+returns-in-Some-clause-too_long_by_number g c = too_long_by_number _ _ _ _ c.answer_input.ensures
+
+pub returns-in-Some-clause-too_long_exactly : goal.returns-in-Some-clause-too_long_exactly
+returns-in-Some-clause-too_long_exactly g c = too_long_exactly _ _ _ _ c.answer_input.ensures
+
+pub returns-in-Some-clause-after_read_fault : goal.returns-in-Some-clause-after_read_fault
+returns-in-Some-clause-after_read_fault g c = λ e.
+    IfSome-at _ _ _ (sym c.in-Some.ensures) (after_read_fault _ _ _ _ c.answer_input.ensures e)
+
+pub returns-in-Some-clause-after_write_fault : goal.returns-in-Some-clause-after_write_fault
+returns-in-Some-clause-after_write_fault g c = λ e.
+    IfSome-at _ _ _ (sym c.in-Some.ensures) (after_write_fault _ _ _ _ c.answer_input.ensures e)
+
+pub returns-in-Some-clause-after_too_long : goal.returns-in-Some-clause-after_too_long
+returns-in-Some-clause-after_too_long g c = λ e.
+    IfSome-at _ _ _ (sym c.in-Some.ensures) (after_too_long _ _ _ _ c.answer_input.ensures e)
+
+pub returns-in-Some-clause-completes : goal.returns-in-Some-clause-completes
+returns-in-Some-clause-completes g c = λ _ _ source sink within. completes _ _ _ _ c.answer_input.ensures source sink within
+
+pub returns-in-Some-clause-completes_by_number : goal.returns-in-Some-clause-completes_by_number
+returns-in-Some-clause-completes_by_number g c = λ _ _ source sink within. completes_by_number _ _ _ _ c.answer_input.ensures source sink within

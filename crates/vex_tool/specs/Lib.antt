@@ -1,0 +1,11 @@
+pub mod Ends
+pub mod MemoryEnds
+pub mod Status
+pub mod StdEnds
+pub mod Lines
+pub mod Command
+pub mod ErrorLine
+pub mod ResultLine
+pub mod Report
+pub mod LineMachine
+pub mod Run

@@ -1,0 +1,22 @@
+-- The lines of some bytes.
+use Rattle.std.specs.Prelude.{ℕ, ◌==◌, List, [], ◌∷◌, if◌then◌else◌}
+
+-- the lines, with b before the first of them
+abbrev pub onto_first : ℕ → List (List ℕ) → List (List ℕ)
+onto_first b [] = (b ∷ []) ∷ []
+onto_first b (l ∷ ls) = (b ∷ l) ∷ ls
+
+-- the lines: each ends at a byte 10, and what comes after the last of these is one too, unless it is empty
+unfoldable pub lines : List ℕ → List (List ℕ)
+lines [] = []
+lines (b ∷ bs) = if b == 10 then [] ∷ lines bs else onto_first b (lines bs)
+
+-- b, and then bytes that end with a byte 10 or are none: b alone counts where it is a byte 10
+abbrev pub onto_whole : ℕ → List ℕ → List ℕ
+onto_whole b [] = if b == 10 then b ∷ [] else []
+onto_whole b (c ∷ cs) = b ∷ c ∷ cs
+
+-- the bytes up to and with the last byte 10, and none where there is no byte 10
+unfoldable pub whole : List ℕ → List ℕ
+whole [] = []
+whole (b ∷ bs) = onto_whole b (whole bs)

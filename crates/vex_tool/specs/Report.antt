@@ -1,0 +1,46 @@
+-- What is written for a line, and for some bytes.
+use Rattle.std.specs.Prelude.{ℕ, ◌==◌, nat_lt, Bool, not, ◌||◌, List, length, filter, flat_map, codes, Result, Ok, Err, if◌then◌else◌}
+use Rattle.hex.specs.Hex.{decode_of}
+use Rattle.hex.specs.declared.error.FromHexError.{FromHexError}
+use Rattle.vex_tool.specs.declared.command.Command.{Command}
+use Rattle.vex_tool.specs.declared.command.Command.TheVariants.{Recode}
+use Rattle.vex_tool.specs.declared.report.LineError.{LineError}
+use Rattle.vex_tool.specs.declared.report.LineError.TheVariants.{LongLine, BadHex}
+use Rattle.vex_tool.specs.ErrorLine.{error_line}
+use Rattle.vex_tool.specs.Lines.{lines}
+use Rattle.vex_tool.specs.ResultLine.{result_line}
+
+-- the name of an error
+abbrev pub line_error_name : LineError → List ℕ
+line_error_name LongLine = codes "LongLine"
+line_error_name BadHex = codes "BadHex"
+
+-- whether a byte of a line is dropped: a space, a tab or a byte 13
+abbrev pub is_blank : ℕ → Bool
+is_blank b = b == 32 || b == 9 || b == 13
+
+-- what is left of a line
+abbrev pub digits : List ℕ → List ℕ
+digits line = filter (λ b. not (is_blank b)) line
+
+-- decoded digits, or the one error for all that is not an even number of hex digits
+abbrev pub or_bad_hex : Result (List ℕ) FromHexError → Result (List ℕ) LineError
+or_bad_hex (Ok bytes) = Ok bytes
+or_bad_hex (Err e) = Err BadHex
+
+-- the bytes that a line writes in hex digits of either case
+unfoldable pub code : List ℕ → Result (List ℕ) LineError
+code line = if nat_lt 8192 (length line) then Err LongLine else or_bad_hex (decode_of (digits line))
+
+-- what is written for a line of this code
+abbrev pub code_report : Command → Result (List ℕ) LineError → List ℕ
+code_report command (Err e) = error_line (line_error_name e)
+code_report (Recode profile) (Ok bytes) = result_line profile bytes
+
+-- what is written for a line
+unfoldable pub report : Command → List ℕ → List ℕ
+report command line = code_report command (code line)
+
+-- what is written for some bytes: the reports of their lines, one after another
+unfoldable pub output : Command → List ℕ → List ℕ
+output command bytes = flat_map (report command) (lines bytes)

@@ -1,0 +1,57 @@
+//! The loop over the input.
+
+ghost use Rattle.std.specs.Prelude.{◌≡◌, ◌<◌, ◌≤◌};
+ghost use Rattle.vex_tool.specs.Report.{report};
+ghost use Rattle.vex_tool.specs.Run.{Ran};
+
+use crate::command::Command;
+use crate::ends::{Failed, Sink, Source};
+use crate::line_buffer::{LineBuffer, feed, finish};
+use crate::status::Status;
+
+/// How many bytes a run takes, at most.
+pub const INPUT_LIMIT: usize = 1 << 26;
+
+/// How many bytes a read asks for, at most.
+const PIECE: usize = 4096;
+
+// How many bytes a read asks for: a piece, or what is left to the limit where that is less, and one byte
+// at the limit.
+fn wanted(room: usize) -> usize
+    ensures some { 0 < result }
+    ensures a_piece { result ≤ PIECE }
+    ensures to_limit { 0 < room → result ≤ room }
+    ensures at_limit { room ≡ 0 → result ≡ 1 }
+{
+    room.clamp(1, PIECE)
+}
+
+/// Reads lines to the end of the input, and answers each.
+pub fn answer_input<S: Source, K: Sink>(command: &Command, source: &mut S, sink: &mut K) -> Status
+    ensures { Ran (report command.now) result
+        (record { left = S.left source.old; given = S.given source.old; source_faults = S.faults source.old; text = K.text sink.old; sink_faults = K.faults sink.old })
+        (record { left = S.left source.new; given = S.given source.new; source_faults = S.faults source.new; text = K.text sink.new; sink_faults = K.faults sink.new }) }
+{
+    let mut line = LineBuffer::new();
+    let mut buffer = [0u8; PIECE];
+    let mut room = INPUT_LIMIT;
+    loop {
+        let piece = &mut buffer[..wanted(room)];
+        match source.read(piece) {
+            Err(Failed) => return Status::ReadFault,
+            Ok(0) => {
+                return match finish(command, &line, sink) {
+                    Ok(()) => Status::Done,
+                    Err(Failed) => Status::WriteFault,
+                };
+            }
+            Ok(_) if room == 0 => return Status::TooLong,
+            Ok(n) => {
+                if let Err(Failed) = feed(command, &mut line, &piece[..n], sink) {
+                    return Status::WriteFault;
+                }
+                room -= n;
+            }
+        }
+    }
+}

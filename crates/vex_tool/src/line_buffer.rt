@@ -1,0 +1,134 @@
+//! The unfinished line, and how a piece of the input ends lines.
+
+ghost use Rattle.std.specs.Prelude.{◌≡◌, ◌≤◌, [], ◌∷◌, length, Some, OnOk, IfSome, IsTrue, ◌↔◌, option_copied};
+ghost use Rattle.vex_tool.specs.Ends.{Writes};
+ghost use Rattle.vex_tool.specs.Report.{report};
+ghost use Rattle.vex_tool.specs.LineMachine.{pushed, stepped, line_after, kept_report, ended_at, ended, last};
+
+use crate::command::Command;
+use crate::ends::{Failed, Sink};
+use crate::report::{LineError, MAX_LINE, write_error, write_report};
+use arrayvec::ArrayVec;
+use std::marker::Model;
+
+/// The byte that ends a line.
+const LINE_END: u8 = b'\n';
+
+/// The bytes of the unfinished line, as long as these are at most 8,192.
+#[derive(Drop)]
+pub struct LineBuffer {
+    kept: ArrayVec<u8, MAX_LINE>,
+    is_long: bool,
+}
+
+impl Model for LineBuffer {
+    ghost use Rattle.std.specs.Prelude.{List, ℕ, Option, Some, None, if◌then◌else◌};
+
+    ghost Value = { Option (List ℕ) };
+
+    ghost view = { λ b. if b.is_long then None else Some b.kept.items };
+}
+
+impl LineBuffer {
+    /// An empty line.
+    pub fn new() -> LineBuffer
+        ensures { result ≡ Some [] }
+    {
+        LineBuffer {
+            kept: ArrayVec::new(),
+            is_long: false,
+        }
+    }
+
+    /// Appends a byte.
+    #[tactic(auto, unfolding(crate::specs::LineMachine::pushed))]
+    pub fn push(&mut self, byte: u8)
+        ensures { self.new ≡ pushed self.old byte }
+    {
+        if !self.is_long {
+            self.is_long = self.kept.try_push(byte).is_err();
+        }
+    }
+
+    /// Begins the next line.
+    pub fn clear(&mut self)
+        ensures { self.new ≡ Some [] }
+    {
+        self.kept.clear();
+        self.is_long = false;
+    }
+
+    /// Whether the line has no byte.
+    pub fn is_empty(&self) -> bool
+        ensures { IsTrue result ↔ (self.now ≡ Some []) }
+    {
+        !self.is_long && self.kept.is_empty()
+    }
+
+    /// The line, or `None` where it is too long.
+    pub fn line(&self) -> Option<&[u8]>
+        ensures value { option_copied result ≡ self.now }
+        ensures fits { IfSome result (λ line. length line.now ≤ MAX_LINE) }
+    {
+        if self.is_long {
+            return None;
+        }
+        Some(self.kept.as_slice())
+    }
+}
+
+// Writes the report of the line.
+fn answer<K: Sink>(command: &Command, line: &LineBuffer, sink: &mut K) -> Result<(), Failed>
+    ensures { Writes result (K.text sink.old) (K.text sink.new) (K.faults sink.old) (K.faults sink.new) (kept_report (report command.now) line.now) }
+{
+    match line.line() {
+        Some(bytes) => write_report(command, bytes, sink),
+        None => write_error(LineError::LongLine, sink),
+    }
+}
+
+// Takes a byte of the input: it ends the line, which is then answered, or is kept.
+#[tactic(auto, unfolding(crate::specs::LineMachine::stepped, crate::specs::LineMachine::ended_at))]
+fn take_byte<K: Sink>(
+    command: &Command,
+    line: &mut LineBuffer,
+    byte: u8,
+    sink: &mut K,
+) -> Result<(), Failed>
+    ensures kept { OnOk result (line.new ≡ stepped line.old byte) }
+    ensures written { Writes result (K.text sink.old) (K.text sink.new) (K.faults sink.old) (K.faults sink.new) (ended_at (report command.now) line.old byte) }
+{
+    if byte != LINE_END {
+        line.push(byte);
+        return Ok(());
+    }
+    answer(command, line, sink)?;
+    line.clear();
+    Ok(())
+}
+
+/// Takes a piece of the input: answers each line that it ends, and keeps the rest.
+pub fn feed<K: Sink>(
+    command: &Command,
+    line: &mut LineBuffer,
+    piece: &[u8],
+    sink: &mut K,
+) -> Result<(), Failed>
+    ensures kept { OnOk result (line.new ≡ line_after line.old piece.now) }
+    ensures written { Writes result (K.text sink.old) (K.text sink.new) (K.faults sink.old) (K.faults sink.new) (ended (report command.now) line.old piece.now) }
+{
+    for &byte in piece {
+        take_byte(command, line, byte, sink)?;
+    }
+    Ok(())
+}
+
+/// Answers the line that has no end, unless it is empty.
+pub fn finish<K: Sink>(command: &Command, line: &LineBuffer, sink: &mut K) -> Result<(), Failed>
+    ensures { Writes result (K.text sink.old) (K.text sink.new) (K.faults sink.old) (K.faults sink.new) (last (report command.now) line.now) }
+{
+    if line.is_empty() {
+        return Ok(());
+    }
+    answer(command, line, sink)
+}

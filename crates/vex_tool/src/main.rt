@@ -1,0 +1,122 @@
+//! The program: canonical bytes of VEX instructions, line by line.
+#![tactic(auto)]
+
+ghost use Rattle.std.specs.Prelude.{◌≡◌, ◌≢◌, ◌+◌, ◌<◌, ◌≤◌, ◌↔◌, ◌⊎◌, length, take, [], Some, IfSome, IsSome, IsSomeAnd, IsNone, IsTrue, IsFalse};
+ghost use Rattle.std.specs.Io.KnownBytes.{Appends};
+ghost use Rattle.vex_tool.specs.Command.{command};
+ghost use Rattle.vex_tool.specs.Ends.{RoseOrIsLast, RoseByMoreThan, IsQuiet, AppendsFront, WhereTaken};
+ghost use Rattle.vex_tool.specs.Lines.{whole};
+ghost use Rattle.vex_tool.specs.Report.{output};
+ghost use Rattle.vex_tool.specs.Run.{input_limit};
+
+use command::Command;
+use ends::{Sink, Source};
+use input::answer_input;
+use status::Status;
+use std::alloc::Global;
+use std::env::{Env, FillError};
+use std::process::ExitCode;
+use std_ends::{StdSink, StdSource};
+use words::{MAX_WORD_LEN, Words};
+
+mod command;
+mod ends;
+mod input;
+mod line_buffer;
+mod memory_ends;
+mod report;
+mod result_line;
+mod status;
+mod std_ends;
+#[cfg(test)]
+mod tests;
+mod words;
+
+/// Runs the command that the words ask for, over all that the source has left.
+///
+/// For each line of the input `recode P` writes one line. The status is `Usage` where the words are no
+/// command or one was refused. Else it is that of the first of these events: a read failed, a write
+/// failed, the source gave a byte after 2^26 bytes, or all is written and the input has ended.
+pub fn run<S: Source, K: Sink>(alloc: Global, words: &Words, source: &mut S, sink: &mut K) -> Status
+    // `Usage` comes exactly where the words are no command or one was refused, and changes nothing.
+    ensures usage { (result ≡ Status.Usage) ↔ (IsNone (command words.now.0) ⊎ IsTrue words.now.1) }
+    ensures untouched { result ≡ Status.Usage → (source.new ≡ source.old) × (sink.new ≡ sink.old) }
+
+    // After `Done` the whole input is read, and its output is written.
+    ensures done_read { result ≡ Status.Done → IfSome (S.left source.old) (λ _. S.left source.new ≡ Some []) }
+    ensures done_written { result ≡ Status.Done → IfSome (command words.now.0) (λ c. IfSome (S.left source.old) (λ input.
+        Appends (K.text sink.old) (K.text sink.new) (output c input))) }
+    ensures done_quiet { result ≡ Status.Done → (S.faults source.new ≡ S.faults source.old) × (K.faults sink.new ≡ K.faults sink.old) }
+
+    // The causes of the other statuses.
+    ensures read_fault { result ≡ Status.ReadFault → RoseOrIsLast (S.faults source.old) (S.faults source.new) }
+    ensures write_fault { result ≡ Status.WriteFault → RoseOrIsLast (K.faults sink.old) (K.faults sink.new) }
+    ensures too_long { result ≡ Status.TooLong → RoseByMoreThan input_limit (S.given source.old) (S.given source.new) }
+    ensures too_long_by_number { S.given source.old + input_limit < S.given source.new → result ≡ Status.TooLong }
+    ensures too_long_exactly { WhereTaken (S.left source.old) (S.left source.new) (λ taken.
+        (result ≡ Status.TooLong) ↔ (input_limit < length taken)) }
+    ensures no_memory { result ≢ Status.NoMemory }
+
+    // What is written then, of the bytes that were taken.
+    ensures after_read_fault { result ≡ Status.ReadFault → IfSome (command words.now.0) (λ c.
+        WhereTaken (S.left source.old) (S.left source.new) (λ taken.
+        Appends (K.text sink.old) (K.text sink.new) (output c (whole taken)))) }
+    ensures after_write_fault { result ≡ Status.WriteFault → IfSome (command words.now.0) (λ c.
+        WhereTaken (S.left source.old) (S.left source.new) (λ taken.
+        AppendsFront (K.text sink.old) (K.text sink.new) (output c taken))) }
+    ensures after_too_long { result ≡ Status.TooLong → IfSome (command words.now.0) (λ c.
+        WhereTaken (S.left source.old) (S.left source.new) (λ taken.
+        Appends (K.text sink.old) (K.text sink.new) (output c (whole (take input_limit taken))))) }
+
+    // A command over ends that do not fail, with at most 2^26 bytes of input, ends with `Done`.
+    ensures completes { IsSome (command words.now.0) → IsFalse words.now.1
+        → IsQuiet (S.faults source.old) (S.faults source.new) → IsQuiet (K.faults sink.old) (K.faults sink.new)
+        → IsSomeAnd (S.left source.old) (λ input. length input ≤ input_limit) → result ≡ Status.Done }
+    ensures completes_by_number { IsSome (command words.now.0) → IsFalse words.now.1
+        → IsQuiet (S.faults source.old) (S.faults source.new) → IsQuiet (K.faults sink.old) (K.faults sink.new)
+        → (RoseByMoreThan input_limit (S.given source.old) (S.given source.new) → ⊥) → result ≡ Status.Done }
+{
+    if words.over() {
+        return Status::Usage;
+    }
+    match Command::of(words) {
+        Some(command) => answer_input(&command, source, sink),
+        None => Status::Usage,
+    }
+}
+
+// A word that is refused, for an argument that is too long to be kept or is not UTF-8.
+const REFUSED: &str = "xxxxxxxxxxxxxxxxxxxxxxxxxxxxxxxxxxxxxxxxxxxxxxxxxxxxxxxxxxxxxxxxx";
+
+// Pushes an argument.
+fn push_argument(words: &mut Words, argument: &[u8]) -> bool {
+    match str::from_utf8(argument) {
+        Ok(word) => words.push(word),
+        Err(_) => words.push(REFUSED),
+    }
+}
+
+// Pushes the program's arguments, without its name.
+fn push_arguments(env: &impl Env, words: &mut Words) {
+    let mut buffer = [0u8; MAX_WORD_LEN];
+    for i in 1..usize::MAX {
+        let _ = match env.arg(i, &mut buffer) {
+            Ok(n) => push_argument(words, &buffer[..n]),
+            Err(FillError::TooLong) => words.push(REFUSED),
+            Err(FillError::NotPresent) => return,
+        };
+    }
+}
+
+fn main(rt: HostRuntime) -> ExitCode {
+    let mut words = Words::new();
+    push_arguments(&rt, &mut words);
+    let mut source = StdSource::new(rt.stdin());
+    let mut sink = StdSink::new(rt.stdout());
+    let status = run(rt.alloc(), &words, &mut source, &mut sink);
+    if status != Status::Done {
+        // Nothing is left to do where this fails too.
+        let _ = eprintln!(rt; "vex_tool: {}", status.name());
+    }
+    ExitCode::from(status.code())
+}

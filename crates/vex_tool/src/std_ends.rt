@@ -1,0 +1,108 @@
+//! The ends of the real program, over any reader and any writer of std. They tell no bytes.
+
+ghost use Rattle.std.specs.Prelude.{◌≡◌, None};
+
+use crate::ends::{Failed, Sink, Source};
+use std::io::{Read, Write};
+use std::marker::Model;
+
+// How many bytes one read asks for, at most.
+const PIECE: usize = 4096;
+
+/// A source over a reader. Each call makes one read, and fails where that read does.
+#[derive(Drop)]
+pub struct StdSource<R: Read> {
+    input: R,
+    given: u64,
+    faults: u64,
+}
+
+impl<R: Read> Model for StdSource<R> {
+    ghost use Rattle.vex_tool.specs.StdEnds.{StdSourceView};
+
+    ghost Value = { StdSourceView R };
+
+    ghost view = { λ s. record { input = s.input; given = s.given; faults = s.faults } };
+}
+
+impl<R: Read> StdSource<R> {
+    /// A source of what the reader gives.
+    pub fn new(input: R) -> StdSource<R>
+        ensures { result ≡ record { input = input; given = 0; faults = 0 } }
+    {
+        StdSource {
+            input,
+            given: 0,
+            faults: 0,
+        }
+    }
+}
+
+impl<R: Read> Source for StdSource<R> {
+    ghost left = { λ _. None };
+
+    ghost given = { λ s. s.given };
+
+    ghost faults = { λ s. s.faults };
+
+    fn read(&mut self, into: &mut [u8]) -> Result<usize, Failed> {
+        let mut piece = [0u8; PIECE];
+        let room = PIECE.min(into.len());
+        match self.input.read(&mut piece[..room]) {
+            Ok(n) => {
+                into[..n].copy_from_slice(&piece[..n]);
+                self.given = self.given.saturating_add(n as u64);
+                Ok(n)
+            }
+            Err(_) => {
+                self.faults = self.faults.saturating_add(1);
+                Err(Failed)
+            }
+        }
+    }
+}
+
+/// A sink over a writer. A call writes until the whole piece is written, and fails where a write does
+/// or takes nothing.
+#[derive(Drop)]
+pub struct StdSink<W: Write> {
+    output: W,
+    faults: u64,
+}
+
+impl<W: Write> Model for StdSink<W> {
+    ghost use Rattle.vex_tool.specs.StdEnds.{StdSinkView};
+
+    ghost Value = { StdSinkView W };
+
+    ghost view = { λ s. record { output = s.output; faults = s.faults } };
+}
+
+impl<W: Write> StdSink<W> {
+    /// A sink that hands all to the writer.
+    pub fn new(output: W) -> StdSink<W>
+        ensures { result ≡ record { output = output; faults = 0 } }
+    {
+        StdSink { output, faults: 0 }
+    }
+}
+
+impl<W: Write> Sink for StdSink<W> {
+    ghost text = { λ _. None };
+
+    ghost faults = { λ s. s.faults };
+
+    fn write_all(&mut self, piece: &[u8]) -> Result<(), Failed> {
+        let mut rest = piece;
+        while !rest.is_empty() {
+            match self.output.write(rest) {
+                Ok(n) if n > 0 => rest = &rest[n..],
+                _ => {
+                    self.faults = self.faults.saturating_add(1);
+                    return Err(Failed);
+                }
+            }
+        }
+        Ok(())
+    }
+}

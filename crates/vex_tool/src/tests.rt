@@ -1,0 +1,304 @@
+//! What no clause says: that the definitions mean what they should, and that each call works once.
+
+ghost use Rattle.std.specs.Prelude.{ℕ, ◌+◌, ◌≤◌, None};
+
+use crate::ends::{Failed, Source};
+use crate::memory_ends::{MemSink, MemSource};
+use crate::run;
+use crate::status::Status;
+use crate::std_ends::{StdSink, StdSource};
+use crate::words::Words;
+use std::alloc::{AllocError, Global};
+use std::io::{self, ErrorKind, Read};
+use std::process::Abort;
+use std::test::Fail;
+
+// What the five lines of the input give.
+const ANSWERS: [&str; 5] = [
+    "error Outside\n",
+    "error BadHex\n",
+    "error Outside\n",
+    "error LongLine\n",
+    "error Outside\n",
+];
+
+// Five lines: with blanks, of three digits, empty, of 8,193 bytes, and without a line end.
+fn five_lines(alloc: Global) -> Result<Vec<u8>, AllocError> {
+    let mut input = Vec::new(alloc);
+    input.extend_from_slice(b" c5 f8\t77\r\nc5f\n\n")?;
+    for _ in 0..8193 {
+        input.push(b'c')?;
+    }
+    input.extend_from_slice(b"\nC4E27D58C1")?;
+    Ok(input)
+}
+
+// The answers of the first lines, joined.
+fn answers(alloc: Global, count: usize) -> Result<Vec<u8>, AllocError> {
+    let mut text = Vec::new(alloc);
+    for answer in ANSWERS.iter().take(count) {
+        text.extend_from_slice(answer.as_bytes())?;
+    }
+    Ok(text)
+}
+
+fn words_of(list: &[&str]) -> Words {
+    let mut words = Words::new();
+    for word in list {
+        words.push(word);
+    }
+    words
+}
+
+// Runs `recode default` into this room, and wants this status and text.
+fn check<S: Source>(
+    rt: &impl Abort,
+    alloc: Global,
+    source: &mut S,
+    sink: &mut MemSink<'_>,
+    want: (Status, &[u8]),
+    at: usize,
+) {
+    let words = words_of(&["recode", "default"]);
+    let status = run(alloc, &words, source, sink);
+    assert_eq!(rt; status, want.0, "at {at}");
+    assert_eq!(rt; sink.written(), want.1, "at {at}");
+}
+
+#[test]
+fn lines_do_not_depend_on_the_pieces(rt: HostRuntime) -> Result<(), Fail> {
+    let input = five_lines(rt.alloc())?;
+    let text = answers(rt.alloc(), 5)?;
+    for step in 1..65 {
+        let mut source = MemSource::new(input.as_slice(), step, &[]);
+        let mut room = [0u8; 100];
+        let mut sink = MemSink::new(&mut room, &[]);
+        check(
+            &rt,
+            rt.alloc(),
+            &mut source,
+            &mut sink,
+            (Status::Done, text.as_slice()),
+            step,
+        );
+    }
+    Ok(())
+}
+
+#[test]
+fn a_failed_read_leaves_the_answers_of_the_whole_lines(rt: HostRuntime) -> Result<(), Fail> {
+    let input = five_lines(rt.alloc())?;
+    // 129 reads give bytes, and one more finds the end.
+    for call in 0..130 {
+        let read = (call * 64).min(input.len());
+        let lines = input.as_slice()[..read]
+            .iter()
+            .filter(|&&b| b == b'\n')
+            .count();
+        let text = answers(rt.alloc(), lines)?;
+        let failing = [call as u64];
+        let mut source = MemSource::new(input.as_slice(), 64, &failing);
+        let mut room = [0u8; 100];
+        let mut sink = MemSink::new(&mut room, &[]);
+        check(
+            &rt,
+            rt.alloc(),
+            &mut source,
+            &mut sink,
+            (Status::ReadFault, text.as_slice()),
+            call,
+        );
+    }
+    Ok(())
+}
+
+#[test]
+fn a_failed_write_leaves_a_front(rt: HostRuntime) -> Result<(), Fail> {
+    let input = five_lines(rt.alloc())?;
+    for call in 0..5 {
+        let text = answers(rt.alloc(), call)?;
+        let failing = [call as u64];
+        let mut source = MemSource::new(input.as_slice(), 4096, &[]);
+        let mut room = [0u8; 100];
+        let mut sink = MemSink::new(&mut room, &failing);
+        check(
+            &rt,
+            rt.alloc(),
+            &mut source,
+            &mut sink,
+            (Status::WriteFault, text.as_slice()),
+            call,
+        );
+    }
+    let mut source = MemSource::new(input.as_slice(), 4096, &[]);
+    let mut room = [0u8; 20];
+    let mut sink = MemSink::new(&mut room, &[]);
+    let want = (Status::WriteFault, b"error Outside\nerror ".as_slice());
+    check(&rt, rt.alloc(), &mut source, &mut sink, want, 5);
+    Ok(())
+}
+
+// Gives bytes `6`, and one that ends a line, and tells nothing.
+#[derive(Drop)]
+struct Flood {
+    left: u64,
+    line_end: u64,
+    given: u64,
+}
+
+impl Source for Flood {
+    ghost left = { λ _. None };
+
+    ghost given = { λ s. s.given };
+
+    ghost faults = { λ _. 0 };
+
+    fn read(&mut self, into: &mut [u8]) -> Result<usize, Failed> {
+        let piece = [b'6'; 4096];
+        let n = into.len().min(4096).min(self.left as usize);
+        into[..n].copy_from_slice(&piece[..n]);
+        if self.line_end < n as u64 {
+            into[self.line_end as usize] = b'\n';
+        }
+        self.left -= n as u64;
+        self.line_end = self.line_end.wrapping_sub(n as u64);
+        self.given = self.given.saturating_add(n as u64);
+        Ok(n)
+    }
+}
+
+#[test]
+fn the_limit_is_two_to_the_26(rt: HostRuntime) {
+    let limit = 1 << 26;
+    let none = u64::MAX;
+    let long = b"error LongLine\n".as_slice();
+    let cases = [
+        // An unfinished line is answered at the end of the input, and dropped past the limit.
+        (limit, none, Status::Done, long),
+        (limit + 1, none, Status::TooLong, b""),
+        // A line whose end is the last byte up to the limit is answered, and one whose end comes after is not.
+        (limit + 1, limit - 1, Status::TooLong, long),
+        (limit + 1, limit, Status::TooLong, b""),
+    ];
+    for (at, (left, line_end, status, text)) in cases.into_iter().enumerate() {
+        let mut source = Flood {
+            left,
+            line_end,
+            given: 0,
+        };
+        let mut room = [0u8; 100];
+        let mut sink = MemSink::new(&mut room, &[]);
+        check(&rt, rt.alloc(), &mut source, &mut sink, (status, text), at);
+    }
+}
+
+#[test]
+fn words_that_are_no_command(rt: HostRuntime) {
+    let long = "xxxxxxxxxxxxxxxxxxxxxxxxxxxxxxxxxxxxxxxxxxxxxxxxxxxxxxxxxxxxxxxxx";
+    let lists: [&[&str]; 8] = [
+        &[],
+        &["recode"],
+        &["recode", "zen6"],
+        &["Recode", "default"],
+        &["recode", "Default"],
+        &["recode", "default", ""],
+        &["recode", "default", long],
+        &["recode", "default", "a", "b", "c"],
+    ];
+    for list in lists {
+        let words = words_of(list);
+        let mut source = MemSource::new(b"c5", 1, &[]);
+        let mut sink = MemSink::new(&mut [], &[]);
+        let status = run(rt.alloc(), &words, &mut source, &mut sink);
+        assert_eq!(rt; status, Status::Usage, "at {list:?}");
+    }
+}
+
+#[test]
+fn words_are_kept_up_to_four_of_64_bytes(rt: HostRuntime) {
+    let longest = "xxxxxxxxxxxxxxxxxxxxxxxxxxxxxxxxxxxxxxxxxxxxxxxxxxxxxxxxxxxxxxxx";
+    let mut words = Words::new();
+    for word in [longest, "", "a", "b"] {
+        assert!(rt; words.push(word));
+    }
+    assert!(rt; !words.over());
+    assert!(rt; !words.push("c"));
+    assert!(rt; words.over());
+    assert_eq!(rt; words.get(0), Some(longest));
+    assert_eq!(rt; words.get(4), None);
+}
+
+#[test]
+fn statuses_have_numbers_and_names(rt: HostRuntime) {
+    let all = [
+        (Status::Done, 0, "Done"),
+        (Status::ReadFault, 1, "ReadFault"),
+        (Status::Usage, 2, "Usage"),
+        (Status::WriteFault, 3, "WriteFault"),
+        (Status::NoMemory, 4, "NoMemory"),
+        (Status::TooLong, 5, "TooLong"),
+    ];
+    for (status, code, name) in all {
+        assert_eq!(rt; status.code(), code);
+        assert_eq!(rt; status.name(), name);
+    }
+}
+
+// A reader that fails.
+#[derive(Drop)]
+struct Broken;
+
+impl Read for Broken {
+    fn read(&mut self, _buf: &mut [u8]) -> io::Result<usize> {
+        Err(io::Error::from(ErrorKind::Interrupted))
+    }
+}
+
+#[test]
+fn a_reader_of_std_gives_its_bytes_and_its_fault(rt: HostRuntime) -> Result<(), Fail> {
+    let input = five_lines(rt.alloc())?;
+    let cases = [(input.as_slice(), 4), (b" c5 f8\t77\r\nc5".as_slice(), 1)];
+    for (bytes, lines) in cases {
+        let text = answers(rt.alloc(), lines)?;
+        let mut source = StdSource::new(bytes.chain(Broken));
+        let mut room = [0u8; 100];
+        let mut sink = MemSink::new(&mut room, &[]);
+        let want = (Status::ReadFault, text.as_slice());
+        check(&rt, rt.alloc(), &mut source, &mut sink, want, lines);
+    }
+    let text = answers(rt.alloc(), 5)?;
+    let mut source = StdSource::new(input.as_slice());
+    let mut room = [0u8; 100];
+    let mut sink = MemSink::new(&mut room, &[]);
+    check(
+        &rt,
+        rt.alloc(),
+        &mut source,
+        &mut sink,
+        (Status::Done, text.as_slice()),
+        5,
+    );
+    Ok(())
+}
+
+#[test]
+fn a_writer_of_std_gets_the_text_up_to_its_fault(rt: HostRuntime) -> Result<(), Fail> {
+    let input = five_lines(rt.alloc())?;
+    let text = answers(rt.alloc(), 5)?;
+    let words = words_of(&["recode", "default"]);
+    let mut source = MemSource::new(input.as_slice(), 4096, &[]);
+    let mut out = Vec::new(rt.alloc());
+    let status = run(rt.alloc(), &words, &mut source, &mut StdSink::new(&mut out));
+    assert_eq!(rt; status, Status::Done);
+    assert_eq!(rt; out.as_slice(), text.as_slice());
+
+    let mut source = MemSource::new(input.as_slice(), 4096, &[]);
+    let mut room = [0u8; 20];
+    let mut sink = StdSink::new(room.as_mut_slice());
+    assert_eq!(rt;
+        run(rt.alloc(), &words, &mut source, &mut sink),
+        Status::WriteFault
+    );
+    assert_eq!(rt; room.as_slice(), b"error Outside\nerror ".as_slice());
+    Ok(())
+}

@@ -1,0 +1,52 @@
+use Rattle.std.specs.Prelude.{◌≡◌, ◌≢◌, ◌⊎◌, ℕ, ◌+◌, ◌*◌, ◌^◌, ◌<◌, Bool, List, ◌∷◌, Option, Some, None}
+use Rattle.x86_operand.specs.declared.register.RegisterBank.{RegisterBank}
+use Rattle.x86_operand.specs.declared.register.RegisterBank.TheVariants.{Q, D, X, Y, Z, RIP}
+use Rattle.x86_operand.specs.declared.address.Address.{Address}
+use Rattle.x86_operand.specs.declared.address.Index.{Index}
+use Rattle.x86_operand.specs.Register.{Register}
+use Rattle.x86_operand.specs.Kind.{InMemory}
+use Rattle.x86_address.specs.Place.{Place, place_bytes, PlainAddress, At, SpellsTarget}
+use Rattle.x86_address.specs.Shortest.{in_banks}
+
+-- the bytes spell this address in memory, with this reg field and these bits X and B: its base is in bank Q or RIP, and
+-- its index in bank Q
+pub record SpellsAddress (bytes : List ℕ) (reg : ℕ) (x b : Bool) (address : Address) : Type 0 where
+  pub plain_address : PlainAddress
+  pub spells : SpellsTarget bytes InMemory reg x b (At plain_address)
+  pub banks : address ≡ in_banks Q plain_address
+
+-- the base is of bank Q, or the instruction pointer with no index beside it
+abbrev pub BankFits : RegisterBank → Option Index → Type 0
+BankFits Q index = Unit {0}
+BankFits D index = ⊥
+BankFits X index = ⊥
+BankFits Y index = ⊥
+BankFits Z index = ⊥
+BankFits RIP index = index ≡ None
+
+-- there is no base, or one that fits
+abbrev pub BaseFits : Option Register → Option Index → Type 0
+BaseFits None index = Unit {0}
+BaseFits (Some base) index = BankFits base.bank index
+
+-- a scale that SIB can say
+abbrev pub IsScale : ℕ → Type 0
+IsScale scale = (scale ≡ 1) ⊎ ((scale ≡ 2) ⊎ ((scale ≡ 4) ⊎ (scale ≡ 8)))
+
+-- a number is 2 to the power 0, 1, 2 or 3
+abbrev pub IsPower : ℕ → Type 0
+IsPower n = (exponent : ℕ) × (exponent < 4) × (n ≡ 2 ^ exponent)
+
+-- there is no index, or one of bank Q with another number than 4 and a scale that SIB can say
+abbrev pub IndexFits : Option Index → Type 0
+IndexFits None = Unit {0}
+IndexFits (Some index) = (index.reg.bank ≡ Q) × (index.reg.num ≢ 4) × IsScale index.scale
+
+-- the bytes of a place in memory begin with ModRM, whose field reg is 0: with another field it is 8 times that field more,
+-- and still below C0 hex
+pub record HasModRM (bytes : List ℕ) (place : Place) : Type 0 where
+  pub modrm : ℕ
+  pub rest : List ℕ
+  pub written : bytes ≡ modrm ∷ rest
+  pub with_reg : (reg : ℕ) → place_bytes reg place ≡ (modrm + 8 * reg) ∷ rest
+  pub below : (reg : ℕ) → reg < 8 → modrm + 8 * reg < 0xC0

@@ -1,0 +1,216 @@
+//! Reading ModRM, an address and an immediate byte.
+
+ghost use Rattle.std.specs.Prelude.{◌≡◌, ◌<◌, ◌+◌, ◌*◌, ◌/◌, ◌%◌, ℕ, List, [], ◌∷◌, IfOk, IfErr, OnErr};
+ghost use Rattle.std.specs.Int.{cast_signed, w32};
+ghost use Rattle.x86_reader.specs.Reader.{Takes, Stops, ChangesOnlyCount, CountsRefusal};
+ghost use Rattle.x86_reader.specs.SliceReader.{SliceReader, slice_state};
+ghost use Rattle.x86_address.specs.Bytes.{bit, displacement_value};
+ghost use Rattle.x86_address.specs.Place.{index_of};
+ghost use Rattle.x86_address.specs.Shortest.{in_banks, plain, index_register};
+ghost use Rattle.x86_address.specs.Reading.{take_byte, take_word, take_displacement, take_sib, take_place};
+ghost use Rattle.x86_address.specs.Reads.{Reads, ReadsSome, FallsShort, ExactOverSlice, NamesAddress, SpelledBy, CutShort};
+
+use x86_operand::{Address, DecodeError, Index, RegSpec, RegisterBank};
+use x86_reader::Reader;
+
+/// Reads the ModRM byte.
+///
+/// Both numbers of the reader rise by 1 after `Ok`, and are as before after an error. `ExhaustedInput` comes only where
+/// the reader's count of refusals rose in this call or stands at its last value; over a `U8Reader`, exactly where no byte
+/// is left. No other error comes.
+pub fn read_modrm<R: Reader>(words: &mut R) -> Result<u8, DecodeError>
+    ensures taken { IfOk result (λ byte. Takes (R.state words.old) (R.state words.new) (byte ∷ [])) }
+    ensures error { IfErr result (λ error. error ≡ DecodeError.ExhaustedInput) }
+    ensures unchanged { OnErr result (ChangesOnlyCount (R.state words.old) (R.state words.new)) }
+    ensures counted { OnErr result (CountsRefusal (R.state words.old) (R.state words.new)) }
+    ensures read { IfOk result (Reads take_byte (R.state words.old) (R.state words.new)) }
+    ensures short { OnErr result (FallsShort take_byte (R.state words.old) (R.state words.new)) }
+    ensures slice { (before after : SliceReader) → R.state words.old ≡ slice_state before → R.state words.new ≡ slice_state after
+        → ExactOverSlice take_byte result before after }
+{
+    read_byte(words)
+}
+
+/// Reads SIB and displacement after a ModRM byte below C0 hex, and answers the address, with the bits X and B of the
+/// prefix. Its base is of bank `Q` or the instruction pointer, and its index of bank `Q`.
+///
+/// SIB follows where the field rm is 4. A displacement follows with mod 1 (8 bits, sign extended) and with mod 2 (32
+/// bits); with mod 0 only where rm is 5, which means the instruction pointer, or the base of SIB is 5, which means no
+/// base: then it has 32 bits, and B is ignored. The index 4 means no index, whatever the scale. (Intel SDM, volume 2,
+/// sections 2.1.3 to 2.1.5 and 2.2.1, tables 2-2 and 2-3.)
+///
+/// Both numbers of the reader rise by the number of bytes taken, at most 5. `ExhaustedInput` comes only where the
+/// reader's count of refusals rose in this call or stands at its last value; over a `U8Reader`, exactly where a byte that
+/// the case wants isn't there, and then none is left. No other error comes.
+pub fn read_address<R: Reader>(
+    words: &mut R,
+    modrm: u8,
+    x: bool,
+    b: bool,
+) -> Result<Address, DecodeError>
+    requires { modrm < 0xC0 }
+
+    // ModRM and the bytes taken, at most 5, spell the address.
+    ensures spells { IfOk result (λ address. SpelledBy modrm x b address (R.state words.old) (R.state words.new)) }
+    ensures banks { IfOk result (λ address. address ≡ in_banks RegisterBank.Q (plain address)) }
+    ensures error { IfErr result (λ error. error ≡ DecodeError.ExhaustedInput) }
+    ensures counted { OnErr result (CountsRefusal (R.state words.old) (R.state words.new)) }
+
+    // After an error the bytes taken, at most 4, are fewer than the case wants.
+    ensures cut { OnErr result (CutShort modrm (R.state words.old) (R.state words.new)) }
+    ensures slice { (before after : SliceReader) → R.state words.old ≡ slice_state before → R.state words.new ≡ slice_state after
+        → ExactOverSlice (take_place (modrm / 64) (modrm % 8)) result before after }
+
+    // The same as one step of a longer reading.
+    ensures read { IfOk result (λ address. ReadsSome (take_place (modrm / 64) (modrm % 8)) (λ place. NamesAddress place x b address)
+        (R.state words.old) (R.state words.new)) }
+    ensures short { OnErr result (FallsShort (take_place (modrm / 64) (modrm % 8)) (R.state words.old) (R.state words.new)) }
+{
+    read_by_fields(words, modrm / 64, modrm % 8, x, b)
+}
+
+/// Reads the immediate byte.
+///
+/// Both numbers of the reader rise by 1 after `Ok`, and are as before after an error. `ExhaustedInput` comes only where
+/// the reader's count of refusals rose in this call or stands at its last value; over a `U8Reader`, exactly where no byte
+/// is left. No other error comes.
+pub fn read_imm<R: Reader>(words: &mut R) -> Result<u8, DecodeError>
+    ensures taken { IfOk result (λ byte. Takes (R.state words.old) (R.state words.new) (byte ∷ [])) }
+    ensures error { IfErr result (λ error. error ≡ DecodeError.ExhaustedInput) }
+    ensures unchanged { OnErr result (ChangesOnlyCount (R.state words.old) (R.state words.new)) }
+    ensures counted { OnErr result (CountsRefusal (R.state words.old) (R.state words.new)) }
+    ensures read { IfOk result (Reads take_byte (R.state words.old) (R.state words.new)) }
+    ensures short { OnErr result (FallsShort take_byte (R.state words.old) (R.state words.new)) }
+    ensures slice { (before after : SliceReader) → R.state words.old ≡ slice_state before → R.state words.new ≡ slice_state after
+        → ExactOverSlice take_byte result before after }
+{
+    read_byte(words)
+}
+
+// One byte.
+#[tactic(auto, using(crate::proofs::Giving::reads_byte, crate::proofs::Giving::lacks_byte))]
+fn read_byte<R: Reader>(words: &mut R) -> Result<u8, DecodeError>
+    ensures taken { IfOk result (λ byte. Takes (R.state words.old) (R.state words.new) (byte ∷ [])) }
+    ensures error { IfErr result (λ error. error ≡ DecodeError.ExhaustedInput) }
+    ensures unchanged { OnErr result (ChangesOnlyCount (R.state words.old) (R.state words.new)) }
+    ensures counted { OnErr result (CountsRefusal (R.state words.old) (R.state words.new)) }
+    ensures read { IfOk result (Reads take_byte (R.state words.old) (R.state words.new)) }
+    ensures short { OnErr result (FallsShort take_byte (R.state words.old) (R.state words.new)) }
+    ensures slice { (before after : SliceReader) → R.state words.old ≡ slice_state before → R.state words.new ≡ slice_state after
+        → ExactOverSlice take_byte result before after }
+{
+    words.next().map_err(|_| DecodeError::ExhaustedInput)
+}
+
+// A displacement of four bytes, the lowest first.
+fn read_word<R: Reader>(words: &mut R) -> Result<i32, DecodeError>
+    ensures read { IfOk result (λ disp. ReadsSome take_word (λ n. disp ≡ cast_signed w32 n) (R.state words.old) (R.state words.new)) }
+    ensures error { IfErr result (λ error. error ≡ DecodeError.ExhaustedInput) }
+    ensures short { OnErr result (FallsShort take_word (R.state words.old) (R.state words.new)) }
+{
+    let lowest = read_byte(words)?;
+    let second = read_byte(words)?;
+    let third = read_byte(words)?;
+    let highest = read_byte(words)?;
+    Ok(i32::from_le_bytes([lowest, second, third, highest]))
+}
+
+// A displacement as long as the field mod says: none, a byte or four bytes for mod 0, 1 and 2.
+fn read_displacement<R: Reader>(words: &mut R, mode: u8) -> Result<i32, DecodeError>
+    requires { mode < 3 }
+    ensures read { IfOk result (λ disp. ReadsSome (take_displacement mode) (λ d. disp ≡ displacement_value d) (R.state words.old) (R.state words.new)) }
+    ensures error { IfErr result (λ error. error ≡ DecodeError.ExhaustedInput) }
+    ensures short { OnErr result (FallsShort (take_displacement mode) (R.state words.old) (R.state words.new)) }
+{
+    match mode {
+        0 => Ok(0),
+        1 => Ok(i32::from(read_byte(words)?.cast_signed())),
+        _ => read_word(words),
+    }
+}
+
+// The general register of a field of three bits and the prefix bit above them.
+fn general(field: u8, upper: bool) -> RegSpec
+    requires { field < 8 }
+    ensures { result ≡ record { bank = RegisterBank.Q; num = field + 8 * bit upper } }
+{
+    RegSpec::of(RegisterBank::Q, field + 8 * u8::from(upper)).unwrap()
+}
+
+// The instruction pointer as a base.
+fn instruction_pointer() -> RegSpec
+    ensures { result ≡ record { bank = RegisterBank.RIP; num = 0 } }
+{
+    RegSpec::of(RegisterBank::RIP, 0).unwrap()
+}
+
+// The index that SIB and X name: the number 4 means none.
+fn index_of(sib: u8, x: bool) -> Option<Index>
+    ensures { result ≡ index_register RegisterBank.Q (index_of (sib / 64) ((sib / 8) % 8) x) }
+{
+    let reg = general(sib / 8 % 8, x);
+    if reg.num() == 4 {
+        return None;
+    }
+    Some(Index {
+        reg,
+        scale: 1 << (sib / 64),
+    })
+}
+
+// The address that SIB begins, with mod 0, 1 or 2.
+fn read_by_sib<R: Reader>(words: &mut R, mode: u8, x: bool, b: bool) -> Result<Address, DecodeError>
+    requires { mode < 3 }
+    ensures read { IfOk result (λ address. ReadsSome (take_sib mode) (λ place. NamesAddress place x b address) (R.state words.old) (R.state words.new)) }
+    ensures error { IfErr result (λ error. error ≡ DecodeError.ExhaustedInput) }
+    ensures short { OnErr result (FallsShort (take_sib mode) (R.state words.old) (R.state words.new)) }
+{
+    let sib = read_byte(words)?;
+    let index = index_of(sib, x);
+    if mode == 0 && sib % 8 == 5 {
+        let disp = read_word(words)?;
+        return Ok(Address {
+            base: None,
+            index,
+            disp,
+        });
+    }
+    let disp = read_displacement(words, mode)?;
+    let base = Some(general(sib % 8, b));
+    Ok(Address { base, index, disp })
+}
+
+// The address that the fields mod and rm of ModRM begin, with mod 0, 1 or 2.
+fn read_by_fields<R: Reader>(
+    words: &mut R,
+    mode: u8,
+    rm: u8,
+    x: bool,
+    b: bool,
+) -> Result<Address, DecodeError>
+    requires memory { mode < 3 }
+    requires field { rm < 8 }
+    ensures read { IfOk result (λ address. ReadsSome (take_place mode rm) (λ place. NamesAddress place x b address) (R.state words.old) (R.state words.new)) }
+    ensures error { IfErr result (λ error. error ≡ DecodeError.ExhaustedInput) }
+    ensures short { OnErr result (FallsShort (take_place mode rm) (R.state words.old) (R.state words.new)) }
+{
+    if rm == 4 {
+        return read_by_sib(words, mode, x, b);
+    }
+    if mode == 0 && rm == 5 {
+        let disp = read_word(words)?;
+        let base = Some(instruction_pointer());
+        return Ok(Address {
+            base,
+            index: None,
+            disp,
+        });
+    }
+    let disp = read_displacement(words, mode)?;
+    let base = Some(general(rm, b));
+    Ok(Address {
+        base,
+        index: None,
+        disp,
+    })
+}

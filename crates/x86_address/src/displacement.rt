@@ -1,0 +1,68 @@
+//! The displacement of an address, as it is written.
+
+ghost use Rattle.std.specs.Prelude.{◌≡◌, ◌≤◌, ◌++◌};
+ghost use Rattle.arrayvec.specs.ArrayVec.{array_vec_len};
+ghost use Rattle.x86_address.specs.Bytes.{word_bytes, displacement_bytes};
+ghost use Rattle.x86_address.specs.Place.{mod_of_displacement};
+ghost use Rattle.x86_address.specs.Shortest.{word_of, shortest_displacement};
+ghost use Rattle.x86_address.specs.Written.{displacement_of};
+
+use arrayvec::ArrayVec;
+
+// A displacement as it is written: not at all, in one byte, or in four.
+#[derive(Clone, Copy)]
+pub(crate) enum Written {
+    Nothing,
+    Byte(i8),
+    Word(i32),
+}
+
+impl Written {
+    // The shortest way to write this value; 0 needs no byte, except where one must stand.
+    pub(crate) fn shortest(value: i32, must: bool) -> Written
+        ensures { displacement_of result ≡ shortest_displacement must value }
+    {
+        if value == 0 && !must {
+            return Written::Nothing;
+        }
+        match i8::try_from(value) {
+            Ok(byte) => Written::Byte(byte),
+            Err(_) => Written::Word(value),
+        }
+    }
+
+    // The mod field that says how long it is.
+    pub(crate) fn mode(self) -> u8
+        ensures { result ≡ mod_of_displacement (displacement_of self) }
+    {
+        match self {
+            Written::Nothing => 0,
+            Written::Byte(_) => 1,
+            Written::Word(_) => 2,
+        }
+    }
+
+    // Its bytes, after these.
+    pub(crate) fn append(self, bytes: &mut ArrayVec<u8, 6>)
+        requires { array_vec_len bytes.old ≤ 2 }
+        ensures { bytes.new.items ≡ bytes.old.items ++ displacement_bytes (displacement_of self) }
+    {
+        match self {
+            Written::Nothing => {}
+            Written::Byte(byte) => bytes.push(byte.cast_unsigned()),
+            Written::Word(word) => append_word(word, bytes),
+        }
+    }
+}
+
+// The four bytes of a displacement, the lowest first, after these.
+pub(crate) fn append_word(word: i32, bytes: &mut ArrayVec<u8, 6>)
+    requires { array_vec_len bytes.old ≤ 2 }
+    ensures { bytes.new.items ≡ bytes.old.items ++ word_bytes (word_of word) }
+{
+    let [lowest, second, third, highest] = word.to_le_bytes();
+    bytes.push(lowest);
+    bytes.push(second);
+    bytes.push(third);
+    bytes.push(highest);
+}

@@ -1,0 +1,3 @@
+pub mod Reader
+pub mod SliceReader
+pub mod Sink

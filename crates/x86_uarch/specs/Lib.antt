@@ -1,0 +1,3 @@
+pub mod Amd
+pub mod Intel
+pub mod Profiles

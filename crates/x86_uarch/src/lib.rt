@@ -1,0 +1,59 @@
+//! The settings of microarchitectures, by maker and by name.
+#![tactic(auto)]
+
+ghost use Rattle.std.specs.Prelude.{◌≡◌};
+ghost use Rattle.x86_settings.specs.Sets.{exactly};
+ghost use Rattle.x86_uarch.specs.Amd.{bulldozer, steamroller};
+ghost use Rattle.x86_uarch.specs.Intel.{core, penryn, skylake, kabylake};
+ghost use Rattle.x86_uarch.specs.Profiles.{profile_of};
+
+use x86_settings::InstDecoder;
+
+pub mod amd;
+pub mod intel;
+
+/// The profile of that name: the functions of `amd` and `intel` by their names, and `default` and
+/// `minimal`. None for any other text; case counts.
+#[tactic(auto, unfolding(crate::specs::Profiles::profiles, crate::specs::Profiles::profile_of))]
+pub fn profile(name: &str) -> Option<InstDecoder>
+    ensures { result ≡ profile_of name.now }
+{
+    match name {
+        "default" => Some(InstDecoder::default()),
+        "minimal" => Some(InstDecoder::minimal()),
+        "k8" => Some(amd::k8()),
+        "k10" => Some(amd::k10()),
+        "bulldozer" => Some(amd::bulldozer()),
+        "piledriver" => Some(amd::piledriver()),
+        "steamroller" => Some(amd::steamroller()),
+        "excavator" => Some(amd::excavator()),
+        "zen" => Some(amd::zen()),
+        "zen2" => Some(amd::zen2()),
+        "zen3" => Some(amd::zen3()),
+        "zen4" => Some(amd::zen4()),
+        "zen5" => Some(amd::zen5()),
+        "netburst" => Some(intel::netburst()),
+        "core" => Some(intel::core()),
+        "penryn" => Some(intel::penryn()),
+        "nehalem" => Some(intel::nehalem()),
+        "westmere" => Some(intel::westmere()),
+        "sandybridge" => Some(intel::sandybridge()),
+        "ivybridge" => Some(intel::ivybridge()),
+        "haswell" => Some(intel::haswell()),
+        "haswell_ex" => Some(intel::haswell_ex()),
+        "broadwell" => Some(intel::broadwell()),
+        "skylake" => Some(intel::skylake()),
+        "kabylake" => Some(intel::kabylake()),
+        _ => None,
+    }
+}
+
+/// Steamroller has the settings of Bulldozer, Penryn those of Core, and Kaby Lake those of Skylake.
+pub fn equal_profiles()
+    ensures steamroller { exactly steamroller ≡ exactly bulldozer }
+    ensures penryn { exactly penryn ≡ exactly core }
+    ensures kabylake { exactly kabylake ≡ exactly skylake }
+{}
+
+#[cfg(test)]
+mod tests;
