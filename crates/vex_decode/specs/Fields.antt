@@ -54,5 +54,12 @@ pub record IsPrefix (form : PrefixForm) (f : Fields) : Type 0 where
 -- the fields of a prefix that the code keeps
 abbrev pub fields_of : Prefix → Fields
 fields_of p = record {
-  map = p.map; pp = p.pp; w = p.w; l = bit p.l; r = bit p.r; x = p.x; b = p.b; v = p.vvvv;
+  map = p.map;
+  pp = p.pp;
+  w = p.w;
+  l = bit p.l;
+  r = bit p.r;
+  x = p.x;
+  b = p.b;
+  v = p.vvvv;
 }

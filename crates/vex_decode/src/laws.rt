@@ -2,7 +2,7 @@
 
 ghost use Rattle.vex_decode.specs.Laws.{PrefixFree, SpellingLength, SpellingBytes, OneMeaning, BlockedOrBegun, MoreBytes, ExhaustedAtEnd, MoreSettings, SameAnswer};
 
-/// If one spelling begins another, they are equal; every spelling has 3 to 11 bytes.
+/// If one spelling begins another they are equal, and every spelling is a string of 3 to 11 bytes.
 pub fn prefix_free()
     ensures equal { PrefixFree }
     ensures length { SpellingLength }
@@ -14,15 +14,15 @@ pub fn one_meaning()
     ensures { OneMeaning }
 {}
 
-/// A decode finds no failing step exactly where some beginning of the bytes spells a meaning whose opcode is
-/// permitted; and bytes that are added at the end change no answer other than that the input is exhausted.
+/// No step of a decode fails exactly where some beginning of the bytes spells a meaning whose opcode is permitted, and
+/// further bytes at the end change no answer other than that the input, all of it taken, is exhausted.
 pub fn blocked_or_begun()
     ensures begun { BlockedOrBegun }
     ensures more { MoreBytes }
     ensures exhausted { ExhaustedAtEnd }
 {}
 
-/// Setting further bits never turns an answer into an error, and never changes the meaning.
+/// Setting further bits never turns an answer into an error, and no bit changes the meaning or the length.
 pub fn more_settings()
     ensures kept { MoreSettings }
     ensures same { SameAnswer }

@@ -35,6 +35,7 @@ distinct VMOVSD_10 row = by_kind (λ kind. is_distinct (slots_of VMOVSD_10 (row_
 distinct VMOVSS_11 row = by_kind (λ kind. is_distinct (slots_of VMOVSS_11 (row_at row.entry row.w row.l kind row.group))) refl refl refl row.kind
 distinct VMOVSD_11 row = by_kind (λ kind. is_distinct (slots_of VMOVSD_11 (row_at row.entry row.w row.l kind row.group))) refl refl refl row.kind
 distinct _ row = refl
+
 few : (form : Form) (row : Row) → has_few form row ≡ true
 few Nothing row = refl
 few VMOVSS_10 row = by_kind (λ kind. has_few VMOVSS_10 (row_at row.entry row.w row.l kind row.group)) refl refl refl row.kind

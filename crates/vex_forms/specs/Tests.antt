@@ -25,6 +25,7 @@ is_sound form row =
 -- whether no field is named twice: at most one slot each names reg, vvvv and the operand E
 abbrev pub is_distinct : List Slot → Bool
 is_distinct slots = nat_le (count_by names_g slots) 1 && nat_le (count_by names_v slots) 1 && nat_le (count_by names_e slots) 1
+
 -- whether a form has at most four slots
 abbrev pub has_few : Form → Row → Bool
 has_few form row = nat_le (length (slots_of form row)) 4

@@ -110,6 +110,7 @@ one_entry a b key m n h k = only_one table no_clashes a b key m n h k
 
 pub small_group : (form : Form) (l : ℕ) (group : ℕ × Opcode) → Among group (groups form l) → group.0 < 8
 small_group form l group m = ltb-true group.0 8 (from-list_all (λ g. nat_lt g.0 8) group (groups form l) (small_groups form l) m)
+
 -- every opcode byte is a byte
 no_large_bytes : large_bytes table ≡ []
 unfolding table
