@@ -106,8 +106,8 @@ pub Writing-step : (text rest : List ℕ) (old now new : Option (List ℕ)) (n :
 Writing-step text rest old now new n w h = record {
   front = w.front ++ take n rest;
   split =
-    w.split ∙ ap (λ t. w.front ++ t) (sym (take-append-drop n rest)) ∙ sym (append_assoc w.front (take n rest) (drop n rest));
-  appended = Appends-then old now new w.front (take n rest) w.appended h
+      w.split ∙ ap (λ t. w.front ++ t) (sym (take-append-drop n rest)) ∙ sym (append_assoc w.front (take n rest) (drop n rest));
+  appended = Appends-then old now new w.front (take n rest) w.appended h;
 }
 
 pub Writing-done : (text rest : List ℕ) (old now : Option (List ℕ)) → Writing text rest old now → length rest ≡ 0 → Appends old now text

@@ -50,19 +50,16 @@ impl<R: Read> Source for StdSource<R> {
     fn read(&mut self, into: &mut [u8]) -> Result<usize, Failed>
         requires { 0 < length into.old }
 
-        // What every source does. This one tells nothing of its bytes.
+        // What every source does. Of its own bytes this one tells nothing.
         ensures fits { IfOk result (λ n. n ≤ length into.old) }
-        ensures takes { IfOk result (λ n. Consumes None None (take n into.new)) }
         ensures others { IfOk result (λ n. drop n into.new ≡ drop n into.old) }
-        ensures end { result ≡ Ok 0 → IsAtEnd None }
         ensures counts { IfOk result (λ n. self.new.given ≡ counted self.old.given n) }
         ensures quiet { OnOk result (self.new.faults ≡ self.old.faults) }
         ensures cause { OnErr result (RoseOrIsLast self.old.faults self.new.faults) }
-        ensures keeps { OnErr result (Keeps None None) }
         ensures keeps_number { OnErr result (self.new.given ≡ self.old.given) }
         ensures never_falls { self.old.faults ≤ self.new.faults }
 
-        // What it hands on from its reader, where the bytes of that are known.
+        // What it hands on from its reader, where the reader's bytes are known.
         ensures bytes { ReadConsumes (R.remaining self.old.input) (R.remaining self.new.input) result into.new }
         ensures fault { OnErr result (self.new.faults ≡ counted self.old.faults 1) }
     {
@@ -113,14 +110,12 @@ impl<W: Write> Sink for StdSink<W> {
     ghost faults = { λ s. s.faults };
 
     fn write_all(&mut self, piece: &[u8]) -> Result<(), Failed>
-        // What every sink does. This one tells nothing of its bytes.
-        ensures appends { OnOk result (Appends None None piece.now) }
+        // What every sink does. Of its own bytes this one tells nothing.
         ensures quiet { OnOk result (self.new.faults ≡ self.old.faults) }
-        ensures front { OnErr result (AppendsFront None None piece.now) }
         ensures cause { OnErr result (RoseOrIsLast self.old.faults self.new.faults) }
         ensures never_falls { self.old.faults ≤ self.new.faults }
 
-        // What it hands on to its writer, where the bytes of that are known.
+        // What it hands on to its writer, where the writer's bytes are known.
         ensures bytes { OnOk result (Appends (W.contents self.old.output) (W.contents self.new.output) piece.now) }
         ensures bytes_front { OnErr result (AppendsFront (W.contents self.old.output) (W.contents self.new.output) piece.now) }
         ensures fault { OnErr result (self.new.faults ≡ counted self.old.faults 1) }
