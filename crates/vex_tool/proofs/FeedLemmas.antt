@@ -1,8 +1,8 @@
 -- A piece of the input, byte by byte.
-use Rattle.std.proofs.Common.{◌≡◌, ℕ, ◌+◌, ◌<◌, List, [], ◌∷◌, ◌++◌, length, get_or, take, drop, Option, Result, Ok, Err, sym, ap, ◌∙◌, refl, subst}
-use Rattle.std.proofs.lemmas.List.{append_assoc, take-append-drop, drop_more, take_more}
+use Rattle.std.proofs.Common.{◌≡◌, ℕ, ◌+◌, ◌<◌, List, [], ◌∷◌, ◌++◌, length, get_or, take, drop, Option, sym, ap, ◌∙◌, refl}
+use Rattle.std.proofs.lemmas.List.{take-append-drop, take_more}
 use Rattle.std.specs.Io.KnownBytes.{Appends}
-use Rattle.vex_tool.specs.Ends.{AppendsFront, RoseOrIsLast, Writes}
+use Rattle.vex_tool.specs.Ends.{AppendsFront}
 use Rattle.vex_tool.specs.LineMachine.{stepped, line_after, ended_at, ended}
 use Rattle.vex_tool.proofs.EndsLemmas.{Appends-none, Appends-then, AppendsFront-then, AppendsFront-more}
 use Rattle.vex_tool.proofs.LineMachineLemmas.{line_after-append, line_after-one, ended-append, ended-one}

@@ -1,12 +1,11 @@
 -- What is written for a line, by what decoding its digits answered.
-use Rattle.std.proofs.Common.{◌≡◌, ℕ, ◌/◌, ◌≤◌, Bool, true, false, cond, ltb, List, ◌++◌, length, take, drop, Result, Ok, Err, ap, ◌∙◌, sym, refl, arith}
+use Rattle.std.proofs.Common.{◌≡◌, ℕ, ◌/◌, ◌≤◌, Bool, true, cond, ltb, List, ◌++◌, length, take, drop, Result, Ok, Err, ap, ◌∙◌, sym, refl, arith}
 use Rattle.std.specs.Prelude.{MatchResult}
 use Rattle.std.proofs.lemmas.Bool.Decides.{nat_tests}
 use Rattle.std.proofs.lemmas.List.{take_at}
 use Rattle.hex.specs.Hex.{decode_of, decode_sized}
 use Rattle.hex.specs.declared.error.FromHexError.{FromHexError}
 use Rattle.vex_tool.specs.declared.command.Command.{Command}
-use Rattle.vex_tool.specs.declared.report.LineError.{LineError}
 use Rattle.vex_tool.specs.declared.report.LineError.TheVariants.{BadHex, LongLine}
 use Rattle.vex_tool.specs.Report.{report, code, code_report, digits, or_bad_hex}
 use Rattle.vex_tool.proofs.LineMachineLemmas.{SameForLong}

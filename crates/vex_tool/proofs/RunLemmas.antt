@@ -1,5 +1,5 @@
 -- The loop over the input: what is so between two reads, and how each end follows from it.
-use Rattle.std.proofs.Common.{◌≡◌, ℕ, ◌+◌, ◌-◌, ◌^◌, ◌<◌, ◌≤◌, min, List, [], ◌++◌, length, take, Option, Some, None, sym, ap, ◌∙◌, refl, inl, inr, arith}
+use Rattle.std.proofs.Common.{◌≡◌, ℕ, ◌+◌, ◌-◌, ◌<◌, ◌≤◌, List, [], ◌++◌, length, take, Option, Some, sym, ap, ◌∙◌, refl, inl, inr, arith}
 use Rattle.std.specs.Io.KnownBytes.{Appends, Consumes, Keeps, IsAtEnd}
 use Rattle.std.specs.List.{flat_map}
 use Rattle.std.proofs.lemmas.Bool.{cases_lt}
@@ -8,7 +8,7 @@ use Rattle.vex_tool.specs.declared.status.Status.TheVariants.{Done, ReadFault, W
 use Rattle.vex_tool.specs.Ends.{AppendsFront, RoseOrIsLast, counted}
 use Rattle.vex_tool.specs.Lines.{lines, whole}
 use Rattle.vex_tool.specs.LineMachine.{line_after, ended, last}
-use Rattle.vex_tool.specs.Run.{Moment, Ran, Finished, FailedReading, FailedWriting, PassedLimit, input_limit}
+use Rattle.vex_tool.specs.Run.{Moment, Ran, input_limit}
 use Rattle.vex_tool.proofs.EndsLemmas.{Appends-none, Appends-then, AppendsFront-then, AppendsFront-more, Consumes-none, Consumes-then, Consumes-keeps}
 use Rattle.vex_tool.proofs.LineMachineLemmas.{SameForLong, line_after-append, ended-append, output-ended, output-whole}
 

@@ -1,5 +1,5 @@
 -- What contracts see of a source and of a sink in memory.
-use Rattle.std.specs.Prelude.{ℕ, ◌-◌, min, List, ◌++◌, length, take, drop}
+use Rattle.std.specs.Prelude.{ℕ, ◌-◌, min, List, ◌++◌, length, drop}
 use Rattle.vex_tool.specs.Ends.{counted}
 
 -- a source in memory: the bytes left, the most that a read gives, the numbers of the reads that fail,

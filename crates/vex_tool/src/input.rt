@@ -1,6 +1,6 @@
 //! The loop over the input.
 
-ghost use Rattle.std.specs.Prelude.{◌≡◌, ◌<◌, ◌≤◌};
+ghost use Rattle.std.specs.Prelude.{◌≡◌, ◌<◌, min};
 ghost use Rattle.vex_tool.specs.Report.{report};
 ghost use Rattle.vex_tool.specs.Run.{Ran};
 
@@ -18,9 +18,7 @@ const PIECE: usize = 4096;
 // How many bytes a read asks for: a piece, or what is left to the limit where that is less, and one byte
 // at the limit.
 fn wanted(room: usize) -> usize
-    ensures some { 0 < result }
-    ensures a_piece { result ≤ PIECE }
-    ensures to_limit { 0 < room → result ≤ room }
+    ensures to_limit { 0 < room → result ≡ min room PIECE }
     ensures at_limit { room ≡ 0 → result ≡ 1 }
 {
     room.clamp(1, PIECE)

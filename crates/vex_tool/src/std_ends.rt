@@ -1,6 +1,8 @@
 //! The ends of the real program, over any reader and any writer of std. They tell no bytes.
 
-ghost use Rattle.std.specs.Prelude.{◌≡◌, None};
+ghost use Rattle.std.specs.Prelude.{◌≡◌, ◌<◌, ◌≤◌, length, take, drop, None, Ok, IfOk, OnOk, OnErr};
+ghost use Rattle.std.specs.Io.KnownBytes.{Appends, Consumes, Keeps, IsAtEnd, ReadConsumes};
+ghost use Rattle.vex_tool.specs.Ends.{RoseOrIsLast, AppendsFront, counted};
 
 use crate::ends::{Failed, Sink, Source};
 use std::io::{Read, Write};
@@ -45,7 +47,22 @@ impl<R: Read> Source for StdSource<R> {
 
     ghost faults = { λ s. s.faults };
 
-    fn read(&mut self, into: &mut [u8]) -> Result<usize, Failed> {
+    fn read(&mut self, into: &mut [u8]) -> Result<usize, Failed>
+        requires { 0 < length into.old }
+
+        // What every source does. Of its own bytes this one tells nothing.
+        ensures fits { IfOk result (λ n. n ≤ length into.old) }
+        ensures others { IfOk result (λ n. drop n into.new ≡ drop n into.old) }
+        ensures counts { IfOk result (λ n. self.new.given ≡ counted self.old.given n) }
+        ensures quiet { OnOk result (self.new.faults ≡ self.old.faults) }
+        ensures cause { OnErr result (RoseOrIsLast self.old.faults self.new.faults) }
+        ensures keeps_number { OnErr result (self.new.given ≡ self.old.given) }
+        ensures never_falls { self.old.faults ≤ self.new.faults }
+
+        // What it hands on from its reader, where the reader's bytes are known.
+        ensures bytes { ReadConsumes (R.remaining self.old.input) (R.remaining self.new.input) result into.new }
+        ensures fault { OnErr result (self.new.faults ≡ counted self.old.faults 1) }
+    {
         let mut piece = [0u8; PIECE];
         let room = PIECE.min(into.len());
         match self.input.read(&mut piece[..room]) {
@@ -92,15 +109,25 @@ impl<W: Write> Sink for StdSink<W> {
 
     ghost faults = { λ s. s.faults };
 
-    fn write_all(&mut self, piece: &[u8]) -> Result<(), Failed> {
+    fn write_all(&mut self, piece: &[u8]) -> Result<(), Failed>
+        // What every sink does. Of its own bytes this one tells nothing.
+        ensures quiet { OnOk result (self.new.faults ≡ self.old.faults) }
+        ensures cause { OnErr result (RoseOrIsLast self.old.faults self.new.faults) }
+        ensures never_falls { self.old.faults ≤ self.new.faults }
+
+        // What it hands on to its writer, where the writer's bytes are known.
+        ensures bytes { OnOk result (Appends (W.contents self.old.output) (W.contents self.new.output) piece.now) }
+        ensures bytes_front { OnErr result (AppendsFront (W.contents self.old.output) (W.contents self.new.output) piece.now) }
+        ensures fault { OnErr result (self.new.faults ≡ counted self.old.faults 1) }
+    {
         let mut rest = piece;
         while !rest.is_empty() {
             match self.output.write(rest) {
-                Ok(n) if n > 0 => rest = &rest[n..],
-                _ => {
+                Err(_) | Ok(0) => {
                     self.faults = self.faults.saturating_add(1);
                     return Err(Failed);
                 }
+                Ok(n) => rest = &rest[n..],
             }
         }
         Ok(())

@@ -1,4 +1,4 @@
-use Rattle.std.proofs.Common.{◌≡◌, ◌<◌, ◌≤◌, length, take, length-take, arith}
+use Rattle.std.proofs.Common.{◌≡◌, ◌≤◌, length, length-take, arith}
 use Rattle.std.proofs.lemmas.List.{length-take-le}
 use Rattle.vex_tool.proofs.ReportLemmas.{SameForLong-report}
 use Rattle.vex_tool.proofs.RunLemmas.{Going-first, Going-step, Gave-read, Gave-none, Ran-read_fault, Ran-done, Ran-finish_fault, Ran-too_long, Ran-feed_fault}

@@ -1,7 +1,6 @@
-use Rattle.std.proofs.Common.{arith, take, drop, ◌+◌, refl}
+use Rattle.std.proofs.Common.{drop, ◌+◌}
 use Rattle.std.proofs.lemmas.List.{take_more}
 use Rattle.std.proofs.lemmas.Result.{err_from_is_err_and}
-use Rattle.vex_tool.specs.Report.{report}
 use Rattle.vex_tool.proofs.EndsLemmas.{Writes-fault}
 use Rattle.vex_tool.proofs.FeedLemmas.{Fed-none, Fed-step, Fed-fault, split_at}
 use Rattle.vex_tool.proofs.line_buffer.feed.Goals as goal

@@ -1,4 +1,4 @@
-use Rattle.std.proofs.Common.{◌≡◌, ◌/◌, length, sym, ap, ◌∙◌, arith}
+use Rattle.std.proofs.Common.{◌≡◌, length, ap, ◌∙◌, arith}
 use Rattle.vex_tool.proofs.ReportLemmas.{IsDecoded, code-decoded, code-refused}
 use Rattle.vex_tool.proofs.report.code_of.Goals as goal
 use Rattle.vex_tool.proofs.report.code_of.Goals.{After-decode_to_slice}
