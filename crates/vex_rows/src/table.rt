@@ -6,7 +6,7 @@ use crate::key::{Map, Pp};
 use x86_operand::Opcode;
 
 /// All entries.
-pub static TABLE: [Entry; 2] = [
+pub static TABLE: [Entry; 6] = [
     Entry {
         map: Map::Map0F,
         pp: Pp::Plain,
@@ -24,5 +24,41 @@ pub static TABLE: [Entry; 2] = [
         l: Rule::Any,
         form: Form::E_G_xyLmm,
         opcode: Opcode::VMOVAPS,
+    },
+    Entry {
+        map: Map::Map0F,
+        pp: Pp::Plain,
+        byte: 0x58,
+        w: Rule::Any,
+        l: Rule::Any,
+        form: Form::G_V_E_xyLmm,
+        opcode: Opcode::VADDPS,
+    },
+    Entry {
+        map: Map::Map0F,
+        pp: Pp::Plain,
+        byte: 0x59,
+        w: Rule::Any,
+        l: Rule::Any,
+        form: Form::G_V_E_xyLmm,
+        opcode: Opcode::VMULPS,
+    },
+    Entry {
+        map: Map::Map0F,
+        pp: Pp::Plain,
+        byte: 0x77,
+        w: Rule::Any,
+        l: Rule::Zero,
+        form: Form::Nothing,
+        opcode: Opcode::VZEROUPPER,
+    },
+    Entry {
+        map: Map::Map0F,
+        pp: Pp::Plain,
+        byte: 0x77,
+        w: Rule::Any,
+        l: Rule::One,
+        form: Form::Nothing,
+        opcode: Opcode::VZEROALL,
     },
 ];
