@@ -99,13 +99,13 @@ only_immediate : (slots : List Slot) (a b : Slot) → immediates slots ≤ 1 →
 only_immediate [] a b few m n h k = absurd m
 only_immediate (s ∷ slots) a b few (inl e) (inl f) h k = e ∙ sym f
 only_immediate (s ∷ slots) a b few (inl e) (inr n) h k =
-  let t : names_imm s ≡ true = ap names_imm (sym e) ∙ h in
-  let few' : 1 + immediates slots ≤ 1 = subst (λ c. (if c then 1 else 0) + immediates slots ≤ 1) t few in
-  absurd (omega (arith, counted b slots n k))
+    let t : names_imm s ≡ true = ap names_imm (sym e) ∙ h in
+    let few' : 1 + immediates slots ≤ 1 = subst (λ c. (if c then 1 else 0) + immediates slots ≤ 1) t few in
+    absurd (omega (arith, counted b slots n k))
 only_immediate (s ∷ slots) a b few (inr m) (inl f) h k =
-  let t : names_imm s ≡ true = ap names_imm (sym f) ∙ k in
-  let few' : 1 + immediates slots ≤ 1 = subst (λ c. (if c then 1 else 0) + immediates slots ≤ 1) t few in
-  absurd (omega (arith, counted a slots m h))
+    let t : names_imm s ≡ true = ap names_imm (sym f) ∙ k in
+    let few' : 1 + immediates slots ≤ 1 = subst (λ c. (if c then 1 else 0) + immediates slots ≤ 1) t few in
+    absurd (omega (arith, counted a slots m h))
 only_immediate (s ∷ slots) a b few (inr m) (inr n) h k = only_immediate slots a b (omega arith) m n h k
 
 signed_again : (imm : ℕ) → imm < 256 → cast_unsigned w8 (cast_signed w8 imm) % 256 ≡ imm
@@ -116,7 +116,7 @@ fourth_again imm h = omega arith
 
 -- an immediate slot says the same of the byte that is made for it
 imm_given : (index_bank : RegisterBank) (r v reg : ℕ) (e e' : Target) (r' v' reg' imm : ℕ) (slot : Slot) → imm < 256 → names_imm slot ≡ true →
-  slot_operand index_bank r' v' reg' e' (imm_of (slot_operand index_bank r v reg e imm slot)) slot ≡ slot_operand index_bank r v reg e imm slot
+    slot_operand index_bank r' v' reg' e' (imm_of (slot_operand index_bank r v reg e imm slot)) slot ≡ slot_operand index_bank r v reg e imm slot
 imm_given index_bank r v reg e e' r' v' reg' imm U8 h k = ap unsigned (omega arith)
 imm_given index_bank r v reg e e' r' v' reg' imm I8 h k = ap (λ n. signed (cast_signed w8 n)) (signed_again imm h)
 imm_given index_bank r v reg e e' r' v' reg' imm (R4 bank) h k = ap (λ n. register (record { bank = bank; num = n })) (fourth_again imm h)
@@ -135,37 +135,36 @@ map_same f g (x ∷ xs) h = ap₂ ◌∷◌ (h x (inl refl)) (map_same f g xs (�
 
 -- each slot says the same of the parts that are put together as of the parts that were read
 module _ (index_bank : RegisterBank) (slots : List Slot) (kind : Kind) (group : Option ℕ) (r v reg : ℕ) (place : Place) (x b : Bool) (imm : ℕ)
-  (few : immediates slots ≤ 1) (r_fits : r ≤ 1) (v_fits : v ≤ 15) (reg_fits : reg < 8) (imm_fits : imm < 256)
-  (is_place : IsPlace place) (is_kind : kind_of place ≡ kind) (in_group : FitsGroup group reg) where
-
+    (few : immediates slots ≤ 1) (r_fits : r ≤ 1) (v_fits : v ≤ 15) (reg_fits : reg < 8) (imm_fits : imm < 256)
+    (is_place : IsPlace place) (is_kind : kind_of place ≡ kind) (in_group : FitsGroup group reg) where
   immediate_again : (e' : Target) (r' v' reg' : ℕ) (slot : Slot) → Among slot slots → names_imm slot ≡ true →
-    slot_operand index_bank r' v' reg' e' (imm_of (operand_at names_imm slots (map (slot_operand index_bank r v reg (target place x b) imm) slots))) slot
-    ≡ slot_operand index_bank r v reg (target place x b) imm slot
+      slot_operand index_bank r' v' reg' e' (imm_of (operand_at names_imm slots (map (slot_operand index_bank r v reg (target place x b) imm) slots))) slot
+      ≡ slot_operand index_bank r v reg (target place x b) imm slot
   immediate_again e' r' v' reg' slot m h =
-    let first = first_operand names_imm (slot_operand index_bank r v reg (target place x b) imm) slots slot m h in
-    let same = only_immediate slots first.slot slot few first.among m first.passes h in
-    let imm_is = ap imm_of first.operand ∙ ap (λ s. imm_of (slot_operand index_bank r v reg (target place x b) imm s)) same in
-    ap (λ n. slot_operand index_bank r' v' reg' e' n slot) imm_is
-    ∙ imm_given index_bank r v reg (target place x b) e' r' v' reg' imm slot imm_fits h
+      let first = first_operand names_imm (slot_operand index_bank r v reg (target place x b) imm) slots slot m h in
+      let same = only_immediate slots first.slot slot few first.among m first.passes h in
+      let imm_is = ap imm_of first.operand ∙ ap (λ s. imm_of (slot_operand index_bank r v reg (target place x b) imm s)) same in
+      ap (λ n. slot_operand index_bank r' v' reg' e' n slot) imm_is
+      ∙ imm_given index_bank r v reg (target place x b) e' r' v' reg' imm slot imm_fits h
 
   pub slot_again : (slot : Slot) → Among slot slots →
-    let operands = map (slot_operand index_bank r v reg (target place x b) imm) slots in
-    let g = number_of (operand_at names_g slots operands) in
-    let e = target_of kind (operand_at names_e slots operands) in
-    slot_operand index_bank ((g / 8) % 2) (number_of (operand_at names_v slots operands) % 16) (reg_for group g) (target (shortest e) (x_of e) (b_of e)) (imm_of (operand_at names_imm slots operands)) slot
-    ≡ slot_operand index_bank r v reg (target place x b) imm slot
+      let operands = map (slot_operand index_bank r v reg (target place x b) imm) slots in
+      let g = number_of (operand_at names_g slots operands) in
+      let e = target_of kind (operand_at names_e slots operands) in
+      slot_operand index_bank ((g / 8) % 2) (number_of (operand_at names_v slots operands) % 16) (reg_for group g) (target (shortest e) (x_of e) (b_of e)) (imm_of (operand_at names_imm slots operands)) slot
+      ≡ slot_operand index_bank r v reg (target place x b) imm slot
   slot_again (G bank) m =
-    let first = first_operand names_g (slot_operand index_bank r v reg (target place x b) imm) slots (G bank) m refl in
-    let g_is = ap number_of first.operand ∙ g_given index_bank r v reg (target place x b) imm first.slot first.passes in
-    ap (λ n. register (record { bank = bank; num = n })) (g_number group reg r _ reg_fits r_fits g_is in_group)
+      let first = first_operand names_g (slot_operand index_bank r v reg (target place x b) imm) slots (G bank) m refl in
+      let g_is = ap number_of first.operand ∙ g_given index_bank r v reg (target place x b) imm first.slot first.passes in
+      ap (λ n. register (record { bank = bank; num = n })) (g_number group reg r _ reg_fits r_fits g_is in_group)
   slot_again (V bank) m =
-    let first = first_operand names_v (slot_operand index_bank r v reg (target place x b) imm) slots (V bank) m refl in
-    let v_is = ap number_of first.operand ∙ v_given index_bank r v reg (target place x b) imm first.slot first.passes in
-    ap (λ n. register (record { bank = bank; num = n })) (ap (λ n. n % 16) v_is ∙ omega arith)
+      let first = first_operand names_v (slot_operand index_bank r v reg (target place x b) imm) slots (V bank) m refl in
+      let v_is = ap number_of first.operand ∙ v_given index_bank r v reg (target place x b) imm first.slot first.passes in
+      ap (λ n. register (record { bank = bank; num = n })) (ap (λ n. n % 16) v_is ∙ omega arith)
   slot_again (E bank) m =
-    let first = first_operand names_e (slot_operand index_bank r v reg (target place x b) imm) slots (E bank) m refl in
-    let e_is = ap (target_of kind) first.operand ∙ e_given index_bank r v reg (target place x b) imm kind first.slot first.passes (kind_of_target-target place x b ∙ is_kind) in
-    ap (target_operand bank index_bank) (ap (λ e. target (shortest e) (x_of e) (b_of e)) e_is ∙ target-shortest place x b is_place)
+      let first = first_operand names_e (slot_operand index_bank r v reg (target place x b) imm) slots (E bank) m refl in
+      let e_is = ap (target_of kind) first.operand ∙ e_given index_bank r v reg (target place x b) imm kind first.slot first.passes (kind_of_target-target place x b ∙ is_kind) in
+      ap (target_operand bank index_bank) (ap (λ e. target (shortest e) (x_of e) (b_of e)) e_is ∙ target-shortest place x b is_place)
   slot_again U8 m = immediate_again NoTarget 0 0 0 U8 m refl
   slot_again I8 m = immediate_again NoTarget 0 0 0 I8 m refl
   slot_again (R4 bank) m = immediate_again NoTarget 0 0 0 (R4 bank) m refl

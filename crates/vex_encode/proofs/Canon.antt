@@ -39,9 +39,9 @@ first_shortest-there : (bytes : List ℕ) (strings : List (List ℕ)) → Among 
 first_shortest-there bytes [] m = absurd m
 first_shortest-there bytes (string ∷ strings) (inl e) = (shorter string (first_shortest strings), refl, subst (λ b. length (shorter string (first_shortest strings)) ≤ length b) (sym e) (shorter_left string (first_shortest strings)))
 first_shortest-there bytes (string ∷ strings) (inr m) =
-  let later = first_shortest-there bytes strings m in
-  let right : length (shorter string (first_shortest strings)) ≤ length later.0 = subst (λ o. length (shorter string o) ≤ length later.0) (sym later.1) (shorter_right string later.0) in
-  (shorter string (first_shortest strings), refl, omega (arith, right, later.2))
+    let later = first_shortest-there bytes strings m in
+    let right : length (shorter string (first_shortest strings)) ≤ length later.0 = subst (λ o. length (shorter string o) ≤ length later.0) (sym later.1) (shorter_right string later.0) in
+    (shorter string (first_shortest strings), refl, omega (arith, right, later.2))
 
 first_shortest-among : (strings : List (List ℕ)) (c : List ℕ) → first_shortest strings ≡ Some c → Among c strings
 first_shortest-among [] c e = cc
@@ -65,23 +65,23 @@ among-filter_map f x y (z ∷ xs) (inr k) e = cons_later (f z) y (filter_map f x
 from-filter_map : {A B : Type 0} (f : A → Option B) (y : B) (xs : List A) → Among y (filter_map f xs) → (x : A) × Among x xs × (f x ≡ Some y)
 from-filter_map f y [] m = absurd m
 from-filter_map f y (z ∷ xs) m = elim (from_cons (f z) y (filter_map f xs) m) [
-    inl e ↦ (z, inl refl, e)
+  | inl e ↦ (z, inl refl, e)
   | inr k ↦ let later = from-filter_map f y xs k in (later.0, inr later.1, later.2)
-  ]
+]
 
 -- the canonical bytes of a meaning spell it
 pub canon_spells : (m : Meaning) (c : List ℕ) → canon m ≡ Some c → Spells c m
 unfolding canon IsRow
 canon_spells m c e =
-  let among = first_shortest-among (all_standard m rows) c e in
-  let from = from-filter_map (λ row. standard row m) c rows among in
-  record { row = from.0; is_row = from.1; by = standard_spells from.0 m from.1 c from.2 }
+    let among = first_shortest-among (all_standard m rows) c e in
+    let from = from-filter_map (λ row. standard row m) c rows among in
+    record { row = from.0; is_row = from.1; by = standard_spells from.0 m from.1 c from.2 }
 
 -- where anything spells a meaning, its canonical bytes are there, and no longer
 pub canon_least : (m : Meaning) (bytes : List ℕ) → Spells bytes m → (c : List ℕ) × (canon m ≡ Some c) × (length c ≤ length bytes)
 unfolding canon IsRow
 canon_least m bytes spells =
-  let there = standard_there spells.row m spells.is_row bytes spells.by in
-  let among = among-filter_map (λ row. standard row m) spells.row (bytes_of spells.row (candidate spells.row m)) rows spells.is_row there in
-  let first = first_shortest-there (bytes_of spells.row (candidate spells.row m)) (all_standard m rows) among in
-  (first.0, first.1, omega (arith, first.2, standard_least spells.row m bytes spells.is_row spells.by))
+    let there = standard_there spells.row m spells.is_row bytes spells.by in
+    let among = among-filter_map (λ row. standard row m) spells.row (bytes_of spells.row (candidate spells.row m)) rows spells.is_row there in
+    let first = first_shortest-there (bytes_of spells.row (candidate spells.row m)) (all_standard m rows) among in
+    (first.0, first.1, omega (arith, first.2, standard_least spells.row m bytes spells.is_row spells.by))

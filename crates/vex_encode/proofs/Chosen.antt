@@ -60,18 +60,18 @@ rm_fits (Some rm) h = λ n e. let same : rm ≡ n = cc in subst (λ n. n < 8) sa
 -- what a walk that answered says of the parts that were read
 pub choose_row : (bytes rest : List ℕ) (form : PrefixForm) (parts : InstructionParts) → IsBytes bytes → walk bytes ≡ Ok ((row_seen parts, syntax_seen form parts), rest) → ChooseRow parts
 choose_row bytes rest form parts is e =
-  let walked = walk-written bytes is (row_seen parts, syntax_seen form parts) rest e in
-  let chosen = chosen-row (row_seen parts) walked.is_row in
-  let row : row_for parts.entry parts.prefix.w parts.prefix.l false parts.form.reg ≡ row_seen parts =
+    let walked = walk-written bytes is (row_seen parts, syntax_seen form parts) rest e in
+    let chosen = chosen-row (row_seen parts) walked.is_row in
+    let row : row_for parts.entry parts.prefix.w parts.prefix.l false parts.form.reg ≡ row_seen parts =
     λ i. record { entry = parts.entry; w = parts.prefix.w; l = l_seen parts.prefix.l i; kind = kind_chosen (steps parts.entry.form).modrm parts.form.rm chosen.kind i; group = (row_seen parts).group } in
-  record {
-    listed = chosen.listed;
-    row = row;
-    there = subst (λ r. exists r ≡ true) (sym row) (exists_chosen (row_seen parts) chosen);
-    reg = reg_fits _ _ walked.is.reg;
-    vvvv = omega (arith, walked.is.prefix.v);
-    rm = rm_fits parts.form.rm walked.is.place;
-  }
+    record {
+      listed = chosen.listed;
+      row = row;
+      there = subst (λ r. exists r ≡ true) (sym row) (exists_chosen (row_seen parts) chosen);
+      reg = reg_fits _ _ walked.is.reg;
+      vvvv = omega (arith, walked.is.prefix.v);
+      rm = rm_fits parts.form.rm walked.is.place;
+    }
 
 pub facts_of : (bytes : List ℕ) (result : Result (InstructionParts × Bor (List ℕ)) DecodeError) → IsBytes bytes → ReadsInstruction result (walk bytes) → IfOk result (λ read. ChooseRow read.0)
 facts_of bytes (Ok read) is reads = choose_row bytes read.1.now reads.0 read.0 is reads.1
@@ -79,10 +79,10 @@ facts_of bytes (Err error) is reads = tt
 
 takes_spelling : (bytes rest : List ℕ) (form : PrefixForm) (parts : InstructionParts) → IsBytes bytes → walk bytes ≡ Ok ((row_seen parts, syntax_seen form parts), rest) → TakesSpelling bytes rest
 takes_spelling bytes rest form parts is e =
-  let walked = walk-written bytes is (row_seen parts, syntax_seen form parts) rest e in
-  let short = bytes_of_length (row_seen parts) (syntax_seen form parts) in
-  let long : length bytes ≡ length (bytes_of (row_seen parts) (syntax_seen form parts)) + length rest = ap length walked.written ∙ length-append (bytes_of (row_seen parts) (syntax_seen form parts)) rest in
-  record { left = omega (arith, long); few = omega (arith, long, short.1) }
+    let walked = walk-written bytes is (row_seen parts, syntax_seen form parts) rest e in
+    let short = bytes_of_length (row_seen parts) (syntax_seen form parts) in
+    let long : length bytes ≡ length (bytes_of (row_seen parts) (syntax_seen form parts)) + length rest = ap length walked.written ∙ length-append (bytes_of (row_seen parts) (syntax_seen form parts)) rest in
+    record { left = omega (arith, long); few = omega (arith, long, short.1) }
 
 pub taken_of : (bytes : List ℕ) (result : Result (InstructionParts × Bor (List ℕ)) DecodeError) → IsBytes bytes → ReadsInstruction result (walk bytes) → IfOk result (λ read. TakesSpelling bytes read.1.now)
 taken_of bytes (Ok read) is reads = takes_spelling bytes read.1.now reads.0 read.0 is reads.1

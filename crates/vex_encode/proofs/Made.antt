@@ -26,28 +26,27 @@ unfolding candidate
 form_of_candidate row m = refl
 
 module _ (row : Row) (layout : RowLayout) (m : Meaning) (prefix : Prefix) (numbers : Numbers)
-  (is : IsLayout row layout) (made : IsCandidate row m prefix numbers) (same_r : numbers.r ≡ prefix.r) (same_v : numbers.vvvv ≡ prefix.vvvv) where
-
+    (is : IsLayout row layout) (made : IsCandidate row m prefix numbers) (same_r : numbers.r ≡ prefix.r) (same_v : numbers.vvvv ≡ prefix.vvvv) where
   -- the meaning that the code gives
   pub meaning_made : gives row (bit numbers.r) numbers.vvvv numbers.reg (target_seen numbers.register) numbers.imm ≡ meant row (candidate row m)
   meaning_made =
-    let r : bit numbers.r ≡ (candidate row m).fields.r = ap bit same_r ∙ ap (λ (f : Fields). f.r) made.fields in
-    let v : numbers.vvvv ≡ (candidate row m).fields.v = same_v ∙ ap (λ (f : Fields). f.v) made.fields in
-    λ i. gives row (r i) (v i) (made.reg i) (made.named i) (made.imm i)
+      let r : bit numbers.r ≡ (candidate row m).fields.r = ap bit same_r ∙ ap (λ (f : Fields). f.r) made.fields in
+      let v : numbers.vvvv ≡ (candidate row m).fields.v = same_v ∙ ap (λ (f : Fields). f.v) made.fields in
+      λ i. gives row (r i) (v i) (made.reg i) (made.named i) (made.imm i)
 
   -- the bytes that the code writes
   pub bytes_made : prefix_bytes (shortest_form (fields_of prefix)) (fields_of prefix) ++ row.entry.byte ∷ (place_bytes numbers.reg (place_for numbers.register) ++ imm_bytes layout.has_imm numbers.imm) ≡ bytes_of row (candidate row m)
   bytes_made =
-    let front : prefix_bytes (shortest_form (fields_of prefix)) (fields_of prefix) ≡ prefix_bytes (candidate row m).form (candidate row m).fields =
+      let front : prefix_bytes (shortest_form (fields_of prefix)) (fields_of prefix) ≡ prefix_bytes (candidate row m).form (candidate row m).fields =
       ap (λ f. prefix_bytes (shortest_form f) f) made.fields ∙ ap (λ form. prefix_bytes form (candidate row m).fields) (sym (form_of_candidate row m)) in
-    λ i. front i ++ row.entry.byte ∷ (place_bytes (made.reg i) (made.place i) ++ imm_bytes (is.has_imm i) (made.imm i))
+      λ i. front i ++ row.entry.byte ∷ (place_bytes (made.reg i) (made.place i) ++ imm_bytes (is.has_imm i) (made.imm i))
 
 -- where the meanings are one, the standard bytes are there
 pub standard_made : (row : Row) (m n : Meaning) (bytes : List ℕ) → exists row ≡ true → n ≡ meant row (candidate row m) → n ≡ m → bytes ≡ bytes_of row (candidate row m) → Some bytes ≡ standard_of row m
 unfolding standard
 standard_made row m n bytes there e same b =
-  let test : same_meaning (meant row (candidate row m)) m ≡ true = ap (λ k. same_meaning k m) (sym e ∙ same) ∙ same_meaning_refl m in
-  rw (there, test) (ap Some b)
+    let test : same_meaning (meant row (candidate row m)) m ≡ true = ap (λ k. same_meaning k m) (sym e ∙ same) ∙ same_meaning_refl m in
+    rw (there, test) (ap Some b)
 
 -- where they aren't, there are none
 pub standard_refused : (row : Row) (m n : Meaning) → exists row ≡ true → n ≡ meant row (candidate row m) → n ≢ m → None ≡ standard_of row m

@@ -11,9 +11,9 @@ use Rattle.vex_forms.specs.Slots.{index_bank, slots}
 use Rattle.vex_forms.specs.Gives.{gives, slot_operand}
 
 pub meaning_given : (row : Row) (layout : RowLayout) (r v reg : ℕ) (e : Target) (imm : ℕ) (operands : List OperandMeaning) → IsLayout row layout →
-  ((bank : RegisterBank) → operands ≡ map (slot_operand bank r v reg e imm) layout.slots.items) →
-  ◌≡◌ {A = Meaning} (record { evex = false; opcode = layout.opcode; operands = operands; size = layout.mem_size }) (gives row r v reg e imm)
+    ((bank : RegisterBank) → operands ≡ map (slot_operand bank r v reg e imm) layout.slots.items) →
+    ◌≡◌ {A = Meaning} (record { evex = false; opcode = layout.opcode; operands = operands; size = layout.mem_size }) (gives row r v reg e imm)
 unfolding gives
 meaning_given row layout r v reg e imm operands is given =
-  let same : operands ≡ map (slot_operand (index_bank row) r v reg e imm) (slots row) = given (index_bank row) ∙ ap (map (slot_operand (index_bank row) r v reg e imm)) is.slots in
-  λ i. record { evex = false; opcode = is.opcode i; operands = same i; size = is.mem_size i }
+    let same : operands ≡ map (slot_operand (index_bank row) r v reg e imm) (slots row) = given (index_bank row) ∙ ap (map (slot_operand (index_bank row) r v reg e imm)) is.slots in
+    λ i. record { evex = false; opcode = is.opcode i; operands = same i; size = is.mem_size i }

@@ -27,20 +27,20 @@ module _ (settings : List Bool) (bytes : List ℕ) (decoded : Decoded) (is : IsB
   -- the bytes that were taken spell the meaning
   pub spelled : Spells (take decoded.len bytes) decoded.meaning
   spelled =
-    let taken_is = ap (λ n. take n bytes) found.len ∙ take-taken (bytes_of found.row found.syntax) found.rest bytes walked.written in
-    record { row = found.row; is_row = walked.is_row; by = record { parts = found.syntax; fits = walked.is; written = taken_is; means = found.means } }
+      let taken_is = ap (λ n. take n bytes) found.len ∙ take-taken (bytes_of found.row found.syntax) found.rest bytes walked.written in
+      record { row = found.row; is_row = walked.is_row; by = record { parts = found.syntax; fits = walked.is; written = taken_is; means = found.means } }
 
   -- where the settings permit the opcode, nothing blocks the bytes
   pub begun : permits settings false decoded.meaning.opcode ≡ true → blocked settings bytes ≡ None
   begun permitted =
-    let p : permits settings false (opcode_of found.row) ≡ true = ap (permits settings false) (sym opcode_is) ∙ permitted in
-    ap (refused settings bytes) found.walked ∙ rw p refl
+      let p : permits settings false (opcode_of found.row) ≡ true = ap (permits settings false) (sym opcode_is) ∙ permitted in
+      ap (refused settings bytes) found.walked ∙ rw p refl
 
   -- where they don't, the bytes are blocked by that
   pub not_permitted : permits settings false decoded.meaning.opcode ≡ false → blocked settings bytes ≡ Some (InvalidOpcode, taken bytes found.rest)
   not_permitted refuses =
-    let p : permits settings false (opcode_of found.row) ≡ false = ap (permits settings false) (sym opcode_is) ∙ refuses in
-    ap (refused settings bytes) found.walked ∙ rw p refl
+      let p : permits settings false (opcode_of found.row) ≡ false = ap (permits settings false) (sym opcode_is) ∙ refuses in
+      ap (refused settings bytes) found.walked ∙ rw p refl
 
   -- the canonical bytes are there
   pub canonical_there : canon decoded.meaning ≡ None → ⊥
@@ -48,11 +48,15 @@ module _ (settings : List Bool) (bytes : List ℕ) (decoded : Decoded) (is : IsB
 
   pub recodes : (spelling : List ℕ) → permits settings false decoded.meaning.opcode ≡ true → canon decoded.meaning ≡ Some spelling → RecodesAs settings bytes decoded spelling
   recodes spelling permitted canonical =
-    let spells = canon_spells decoded.meaning spelling canonical in
-    record {
-      begun = begun permitted; spelled = spelled; permitted = permitted; canonical = canonical; same = spells;
-      accepted = spells-not_blocked settings spelling decoded.meaning spells permitted;
-    }
+      let spells = canon_spells decoded.meaning spelling canonical in
+      record {
+        begun = begun permitted;
+        spelled = spelled;
+        permitted = permitted;
+        canonical = canonical;
+        same = spells;
+        accepted = spells-not_blocked settings spelling decoded.meaning spells permitted;
+      }
 
 -- a walk that fails blocks the bytes
 pub walk_blocked : (settings : List Bool) (bytes rest : List ℕ) (error : DecodeError) → walk bytes ≡ Err (error, rest) → blocked settings bytes ≡ Some (error, taken bytes rest)

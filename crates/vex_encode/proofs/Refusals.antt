@@ -14,7 +14,7 @@ use Rattle.vex_decode.proofs.Prefix.{after_form}
 -- a map number that is none is refused after both bytes
 pub map_refused : (bytes after rest : List ℕ) (p q : ℕ) → take_byte bytes ≡ Ok (p, after) → take_byte after ≡ Ok (q, rest) → map_of (p % 32) ≡ None → read_fields C4 bytes ≡ Err (InvalidOpcode, rest)
 map_refused bytes after rest p q first second none =
-  step_then (take_byte bytes) _ (p, after) _ first (step_then (take_byte after) _ (q, rest) _ second (ap (λ m. fields_by_map m p q rest) none))
+    step_then (take_byte bytes) _ (p, after) _ first (step_then (take_byte after) _ (q, rest) _ second (ap (λ m. fields_by_map m p q rest) none))
 
 form_refused : (first : ℕ) (rest : List ℕ) → first ≢ 197 → first ≢ 196 → form_of first rest ≡ Err (Outside, rest)
 form_refused first rest five four = by (first == 197) refl (first == 196) refl where
@@ -26,4 +26,4 @@ form_refused first rest five four = by (first == 197) refl (first == 196) refl w
 -- another first byte is refused
 pub first_refused : (bytes rest : List ℕ) (first : ℕ) → take_byte bytes ≡ Ok (first, rest) → first ≢ 197 → first ≢ 196 → read_prefix bytes ≡ Err (Outside, rest)
 first_refused bytes rest first read five four =
-  step_then (take_byte bytes) _ (first, rest) _ read (ap (λ (r : Reading PrefixForm). r >>= after_form) (form_refused first rest five four))
+    step_then (take_byte bytes) _ (first, rest) _ read (ap (λ (r : Reading PrefixForm). r >>= after_form) (form_refused first rest five four))

@@ -64,9 +64,9 @@ filter_map-append f (x ∷ xs) ys = by (f x) (filter_map f xs) (filter_map f ys)
 
 pub best-append : (m : Meaning) (xs ys : List Row) → best m (xs ++ ys) ≡ shorter_of (best m xs) (best m ys)
 best-append m xs ys =
-  ap (λ rows. first_shortest (all_standard m rows)) (filter-append exists xs ys)
-  ∙ ap first_shortest (filter_map-append (λ row. standard row m) (filter exists xs) (filter exists ys))
-  ∙ first_shortest-append (all_standard m (filter exists xs)) (all_standard m (filter exists ys))
+    ap (λ rows. first_shortest (all_standard m rows)) (filter-append exists xs ys)
+    ∙ ap first_shortest (filter_map-append (λ row. standard row m) (filter exists xs) (filter exists ys))
+    ∙ first_shortest-append (all_standard m (filter exists xs)) (all_standard m (filter exists ys))
 
 -- over one choice
 pub best-one : (m : Meaning) (row : Row) → best m (row ∷ []) ≡ standard_of row m
@@ -80,9 +80,9 @@ best-one m row = by (exists row) (standard row m) refl where
 list_all-front : {A : Type 0} (p : A → Bool) (xs ys : List A) → list_all p (xs ++ ys) ≡ true → (list_all p xs ≡ true) × (list_all p ys ≡ true)
 list_all-front p [] ys h = (refl, h)
 list_all-front p (x ∷ xs) ys h =
-  let parts = both-parts (p x) (list_all p (xs ++ ys)) h in
-  let later = list_all-front p xs ys parts.1 in
-  (rw (parts.0) later.0, later.1)
+    let parts = both-parts (p x) (list_all p (xs ++ ys)) h in
+    let later = list_all-front p xs ys parts.1 in
+    (rw (parts.0) later.0, later.1)
 
 -- a check of registers that a row's choice passes
 register_only : (row : Row) (cs : List Check) → list_any is_register_check cs ≡ true → list_all (permits_choice row) cs ≡ true → is_register row.kind ≡ true
@@ -105,12 +105,12 @@ no_memory_row entry w l group none modrm = by (exists (row_at entry w l InMemory
   by : (b : Bool) → exists (row_at entry w l InMemory group) ≡ b → exists (row_at entry w l InMemory group) ≡ false
   by false e = e
   by true e =
-    let row : Row = row_at entry w l InMemory group in
-    let checks = (both-parts _ (list_all (permits_choice row) (checks_of entry)) e).1 in
-    let front = (list_all-front (permits_choice row) ((steps entry.form).first ++ (steps entry.form).second) (steps entry.form).third checks).0 in
-    let second = (list_all-front (permits_choice row) (steps entry.form).first (steps entry.form).second front).1 in
-    let any = register_if (steps entry.form).address (list_any is_register_check (steps entry.form).second) (addressed_form entry modrm) none in
-    cc (register_only row (steps entry.form).second any second)
+      let row : Row = row_at entry w l InMemory group in
+      let checks = (both-parts _ (list_all (permits_choice row) (checks_of entry)) e).1 in
+      let front = (list_all-front (permits_choice row) ((steps entry.form).first ++ (steps entry.form).second) (steps entry.form).third checks).0 in
+      let second = (list_all-front (permits_choice row) (steps entry.form).first (steps entry.form).second front).1 in
+      let any = register_if (steps entry.form).address (list_any is_register_check (steps entry.form).second) (addressed_form entry modrm) none in
+      cc (register_only row (steps entry.form).second any second)
 
 shorter_none : (o : Option (List ℕ)) → shorter_of o None ≡ o
 shorter_none None = refl
@@ -119,48 +119,47 @@ shorter_none (Some bytes) = refl
 standard_none : (row : Row) (m : Meaning) → exists row ≡ false → standard_of row m ≡ None
 standard_none row m h = rw h refl
 
-
 best_of_kinds : (m : Meaning) (modrm has : Bool) (entry : Entry) (w : Bool) (l : ℕ) (gs : List (Option ℕ)) → has ≡ false →
-  (modrm ≡ true → exists (row_at entry w l InMemory None) ≡ false) →
-  best m (flat_map (λ kind. map (row_at entry w l kind) (if has then gs else None ∷ [])) (if modrm then InRegister ∷ InMemory ∷ [] else WithoutModRM ∷ []))
-  ≡ standard_of (row_at entry w l (if modrm then (if false then InMemory else InRegister) else WithoutModRM) None) m
+    (modrm ≡ true → exists (row_at entry w l InMemory None) ≡ false) →
+    best m (flat_map (λ kind. map (row_at entry w l kind) (if has then gs else None ∷ [])) (if modrm then InRegister ∷ InMemory ∷ [] else WithoutModRM ∷ []))
+    ≡ standard_of (row_at entry w l (if modrm then (if false then InMemory else InRegister) else WithoutModRM) None) m
 best_of_kinds m modrm true entry w l gs h none = cc
 best_of_kinds m true false entry w l gs h none =
-  best-append m (row_at entry w l InRegister None ∷ []) (row_at entry w l InMemory None ∷ [])
-  ∙ ap₂ shorter_of (best-one m (row_at entry w l InRegister None)) (best-one m (row_at entry w l InMemory None) ∙ standard_none _ m (none refl))
-  ∙ shorter_none _
+    best-append m (row_at entry w l InRegister None ∷ []) (row_at entry w l InMemory None ∷ [])
+    ∙ ap₂ shorter_of (best-one m (row_at entry w l InRegister None)) (best-one m (row_at entry w l InMemory None) ∙ standard_none _ m (none refl))
+    ∙ shorter_none _
 best_of_kinds m false false entry w l gs h none = best-one m (row_at entry w l WithoutModRM None)
 
 pub best_of_l : (m : Meaning) (entry : Entry) (w l : Bool) → Among entry table → has_groups entry.form ≡ false →
-  best m (choices_of_l entry w (if l then 1 else 0)) ≡ standard_of (row_for entry w l false 0) m
+    best m (choices_of_l entry w (if l then 1 else 0)) ≡ standard_of (row_for entry w l false 0) m
 best_of_l m entry w l listed none =
-  best_of_kinds m (steps entry.form).modrm (has_groups entry.form) entry w (if l then 1 else 0) _ none (no_memory_row entry w (if l then 1 else 0) None (direct entry listed))
-  ∙ ap (λ g. standard_of (row_at entry w (if l then 1 else 0) (if (steps entry.form).modrm then (if false then InMemory else InRegister) else WithoutModRM) g) m) (sym (ap (λ has. if has then Some 0 else None) none))
+    best_of_kinds m (steps entry.form).modrm (has_groups entry.form) entry w (if l then 1 else 0) _ none (no_memory_row entry w (if l then 1 else 0) None (direct entry listed))
+    ∙ ap (λ g. standard_of (row_at entry w (if l then 1 else 0) (if (steps entry.form).modrm then (if false then InMemory else InRegister) else WithoutModRM) g) m) (sym (ap (λ has. if has then Some 0 else None) none))
 
 best_of_two : {A : Type 0} (m : Meaning) (f : A → List Row) (a b : A) → best m (flat_map f (a ∷ b ∷ [])) ≡ shorter_of (best m (f a)) (best m (f b))
 best_of_two m f a b =
-  best-append m (f a) (f b ++ [])
-  ∙ ap (shorter_of (best m (f a))) (best-append m (f b) [] ∙ shorter_none (best m (f b)))
+    best-append m (f a) (f b ++ [])
+    ∙ ap (shorter_of (best m (f a))) (best-append m (f b) [] ∙ shorter_none (best m (f b)))
 
 -- over all choices of an entry
 pub best_of_entry : (m : Meaning) (entry : Entry) → Among entry table → has_groups entry.form ≡ false →
-  best m (choices entry) ≡ shorter_of (shorter_of (standard_of (row_for entry false false false 0) m) (standard_of (row_for entry false true false 0) m)) (shorter_of (standard_of (row_for entry true false false 0) m) (standard_of (row_for entry true true false 0) m))
+    best m (choices entry) ≡ shorter_of (shorter_of (standard_of (row_for entry false false false 0) m) (standard_of (row_for entry false true false 0) m)) (shorter_of (standard_of (row_for entry true false false 0) m) (standard_of (row_for entry true true false 0) m))
 unfolding choices
 best_of_entry m entry listed none =
-  best_of_two m (choices_of_w entry) false true
-  ∙ ap₂ shorter_of
+    best_of_two m (choices_of_w entry) false true
+    ∙ ap₂ shorter_of
     (best_of_two m (choices_of_l entry false) 0 1 ∙ ap₂ shorter_of (best_of_l m entry false false listed none) (best_of_l m entry false true listed none))
     (best_of_two m (choices_of_l entry true) 0 1 ∙ ap₂ shorter_of (best_of_l m entry true false listed none) (best_of_l m entry true true listed none))
 
 -- over one more entry
 pub best_more : (m : Meaning) (entries : List Entry) (i : ℕ) (entry : Entry) → i < length entries → slice_get entries i ≡ Some entry →
-  best m (flat_map choices (take (i + 1) entries)) ≡ shorter_of (best m (flat_map choices (take i entries))) (best m (choices entry))
+    best m (flat_map choices (take (i + 1) entries)) ≡ shorter_of (best m (flat_map choices (take i entries))) (best m (choices entry))
 best_more m entries i entry within read =
-  let at : get_or entries i entry ≡ entry = get_or_from_slice_get entries i entry entry read in
-  ap (λ es. best m (flat_map choices es)) (take_more entries i entry within ∙ ap (λ e. take i entries ++ e ∷ []) at)
-  ∙ ap (best m) (flat_map-append choices (take i entries) (entry ∷ []))
-  ∙ best-append m (flat_map choices (take i entries)) (choices entry ++ [])
-  ∙ ap (shorter_of (best m (flat_map choices (take i entries)))) (best-append m (choices entry) [] ∙ shorter_none (best m (choices entry)))
+    let at : get_or entries i entry ≡ entry = get_or_from_slice_get entries i entry entry read in
+    ap (λ es. best m (flat_map choices es)) (take_more entries i entry within ∙ ap (λ e. take i entries ++ e ∷ []) at)
+    ∙ ap (best m) (flat_map-append choices (take i entries) (entry ∷ []))
+    ∙ best-append m (flat_map choices (take i entries)) (choices entry ++ [])
+    ∙ ap (shorter_of (best m (flat_map choices (take i entries)))) (best-append m (choices entry) [] ∙ shorter_none (best m (choices entry)))
 
 -- over the whole table
 pub canon-best : (m : Meaning) → canon m ≡ best m (flat_map choices table)

@@ -49,10 +49,10 @@ false_not false h = refl
 
 two_bytes_fit : (f : Fields) → fits_two_bytes f ≡ true → FitsTwoBytes f
 two_bytes_fit f h =
-  let at_b = both-parts (map_number f.map == 1 && not f.w && not f.x) (not f.b) h in
-  let at_x = both-parts (map_number f.map == 1 && not f.w) (not f.x) at_b.0 in
-  let at_w = both-parts (map_number f.map == 1) (not f.w) at_x.0 in
-  record { map = map_one f.map at_w.0; w = not_false f.w at_w.1; x = not_false f.x at_x.1; b = not_false f.b at_b.1 }
+    let at_b = both-parts (map_number f.map == 1 && not f.w && not f.x) (not f.b) h in
+    let at_x = both-parts (map_number f.map == 1 && not f.w) (not f.x) at_b.0 in
+    let at_w = both-parts (map_number f.map == 1) (not f.w) at_x.0 in
+    record { map = map_one f.map at_w.0; w = not_false f.w at_w.1; x = not_false f.x at_x.1; b = not_false f.b at_b.1 }
 
 can_say : (f : Fields) → CanSay (shortest_form f) f
 can_say f = by (fits_two_bytes f) refl where
@@ -65,10 +65,10 @@ small_group : (row : Row) (group : ℕ) → Among (Some group) (group_choices ro
 small_group row group m = by (has_groups row.entry.form) m where
   by : (has : Bool) → Among (Some group) (if has then map (λ g. Some g.0) (groups row.entry.form row.l) else None ∷ []) → group < 8
   by true k =
-    let from = from-map (λ g. Some g.0) (Some group) (groups row.entry.form row.l) k in
-    let same : group ≡ from.0.0 = cc in
-    let small = from-list_all (λ g. nat_lt g.0 8) from.0 (groups row.entry.form row.l) (small_groups row.entry.form row.l) from.1 in
-    grind (arith, nat_tests)
+      let from = from-map (λ g. Some g.0) (Some group) (groups row.entry.form row.l) k in
+      let same : group ≡ from.0.0 = cc in
+      let small = from-list_all (λ g. nat_lt g.0 8) from.0 (groups row.entry.form row.l) (small_groups row.entry.form row.l) from.1 in
+      grind (arith, nat_tests)
   by false (inl e) = cc
   by false (inr e) = absurd e
 
@@ -137,8 +137,8 @@ group_none false gs group h (inr e) = absurd e
 group_alone : (row : Row) → Chosen row → (steps row.entry.form).modrm ≡ false → row.group ≡ None
 unfolding has_groups
 group_alone row chosen alone =
-  let none : list_any is_group_check (steps row.entry.form).second ≡ false = ap (list_any is_group_check) (alone_form row.entry alone).second in
-  group_none (has_groups row.entry.form) (groups row.entry.form row.l) row.group none chosen.group
+    let none : list_any is_group_check (steps row.entry.form).second ≡ false = ap (list_any is_group_check) (alone_form row.entry alone).second in
+    group_none (has_groups row.entry.form) (groups row.entry.form row.l) row.group none chosen.group
 
 module _ (row : Row) (m : Meaning) (is_row : IsRow row) where
   chosen : Chosen row
@@ -148,21 +148,24 @@ module _ (row : Row) (m : Meaning) (is_row : IsRow row) where
   pub candidate_is : IsSyntax row (candidate row m)
   unfolding candidate slots has_imm
   candidate_is =
-    let operands = m.operands in
-    let g = number_of (operand_at names_g (slots row) operands) in
-    let v = number_of (operand_at names_v (slots row) operands) in
-    let e = target_of row.kind (operand_at names_e (slots row) operands) in
-    let sound = sound_row row in
-    record {
-      prefix = record { l = chosen.one_bit; r = omega arith; v = omega arith; can_say = can_say (fields_for row g v e) };
-      map = refl; pp = refl; w = refl; l = refl;
-      reg = reg_fits (steps row.entry.form).modrm row row.group g chosen.group (λ alone. (ap number_of (no_operand names_g (slots row) operands (or_false _ _ sound.alone alone)), group_alone row chosen alone));
-      place = is_place-shortest e;
-      kind = kind_of-shortest e ∙ kind_asked row.kind (operand_at names_e (slots row) operands);
-      group = group_fits row.group g;
-      v = rule_fits (v_rule row) v (λ zero. ap number_of (no_operand names_v (slots row) operands (v_rule-zero row zero).0));
-      imm = imm_fits (steps row.entry.form).imm (operand_at names_imm (slots row) operands) (λ none. no_operand names_imm (slots row) operands (no_immediates (slots row) (few_by _ _ sound.immediates none)));
-    }
+      let operands = m.operands in
+      let g = number_of (operand_at names_g (slots row) operands) in
+      let v = number_of (operand_at names_v (slots row) operands) in
+      let e = target_of row.kind (operand_at names_e (slots row) operands) in
+      let sound = sound_row row in
+      record {
+        prefix = record { l = chosen.one_bit; r = omega arith; v = omega arith; can_say = can_say (fields_for row g v e) };
+        map = refl;
+        pp = refl;
+        w = refl;
+        l = refl;
+        reg = reg_fits (steps row.entry.form).modrm row row.group g chosen.group (λ alone. (ap number_of (no_operand names_g (slots row) operands (or_false _ _ sound.alone alone)), group_alone row chosen alone));
+        place = is_place-shortest e;
+        kind = kind_of-shortest e ∙ kind_asked row.kind (operand_at names_e (slots row) operands);
+        group = group_fits row.group g;
+        v = rule_fits (v_rule row) v (λ zero. ap number_of (no_operand names_v (slots row) operands (v_rule-zero row zero).0));
+        imm = imm_fits (steps row.entry.form).imm (operand_at names_imm (slots row) operands) (λ none. no_operand names_imm (slots row) operands (no_immediates (slots row) (few_by _ _ sound.immediates none)));
+      }
 
 reg_below : (modrm : Bool) (reg : ℕ) → FitsReg modrm reg → reg < 8
 reg_below true reg h = h
@@ -176,11 +179,11 @@ imm_byte false imm h = omega arith
 means_again : (row : Row) (s : Syntax) → IsRow row → IsSyntax row s → meant row (candidate row (meant row s)) ≡ meant row s
 unfolding candidate slots gives has_imm
 means_again row s is_row is =
-  let sound = sound_row row in
-  let again = slot_again (index_bank row) (slots row) row.kind row.group s.fields.r s.fields.v s.reg s.place s.fields.x s.fields.b s.imm
+    let sound = sound_row row in
+    let again = slot_again (index_bank row) (slots row) row.kind row.group s.fields.r s.fields.v s.reg s.place s.fields.x s.fields.b s.imm
     (few_at_most (steps row.entry.form).imm _ sound.immediates) is.prefix.r is.prefix.v (reg_below _ _ is.reg) (imm_byte _ _ is.imm) is.place is.kind is.group in
-  let operands = map_same _ _ (slots row) again in
-  λ i. record { evex = false; opcode = opcode_of row; operands = operands i; size = size_of row }
+    let operands = map_same _ _ (slots row) again in
+    λ i. record { evex = false; opcode = opcode_of row; operands = operands i; size = size_of row }
 
 module _ (row : Row) (m : Meaning) (is_row : IsRow row) where
   -- they mean it where anything of the row does
@@ -198,19 +201,19 @@ module _ (row : Row) (m : Meaning) (is_row : IsRow row) where
   standard_spells bytes e = by (same_meaning (meant row (candidate row m)) m) refl e where
     by : (b : Bool) → same_meaning (meant row (candidate row m)) m ≡ b → (if b then Some (bytes_of row (candidate row m)) else None) ≡ Some bytes → SpellsBy bytes m row
     by true h e =
-      let same : bytes_of row (candidate row m) ≡ bytes = cc in
-      record { parts = candidate row m; fits = candidate_is row m is_row; written = sym same; means = sym (same_meaning_equal _ _ h) }
+        let same : bytes_of row (candidate row m) ≡ bytes = cc in
+        record { parts = candidate row m; fits = candidate_is row m is_row; written = sym same; means = sym (same_meaning_equal _ _ h) }
     by false h e = cc
 
 -- what the parts that are put together ask of the place of E: what was read, or nothing
 asked : (row : Row) (s : Syntax) → IsSyntax row s →
-  let operands = map (slot_operand (index_bank row) s.fields.r s.fields.v s.reg (target s.place s.fields.x s.fields.b) s.imm) (slots row) in
-  (target_of row.kind (operand_at names_e (slots row) operands) ≡ target s.place s.fields.x s.fields.b) ⊎ (operand_at names_e (slots row) operands ≡ nothing)
+    let operands = map (slot_operand (index_bank row) s.fields.r s.fields.v s.reg (target s.place s.fields.x s.fields.b) s.imm) (slots row) in
+    (target_of row.kind (operand_at names_e (slots row) operands) ≡ target s.place s.fields.x s.fields.b) ⊎ (operand_at names_e (slots row) operands ≡ nothing)
 asked row s is =
-  elim (first_or_none names_e (slot_operand (index_bank row) s.fields.r s.fields.v s.reg (target s.place s.fields.x s.fields.b) s.imm) (slots row)) [
-    inl first ↦ inl (ap (target_of row.kind) first.operand ∙ e_given (index_bank row) s.fields.r s.fields.v s.reg (target s.place s.fields.x s.fields.b) s.imm row.kind first.slot first.passes (kind_of_target-target s.place s.fields.x s.fields.b ∙ is.kind))
-  | inr none ↦ inr none
-  ]
+    elim (first_or_none names_e (slot_operand (index_bank row) s.fields.r s.fields.v s.reg (target s.place s.fields.x s.fields.b) s.imm) (slots row)) [
+      | inl first ↦ inl (ap (target_of row.kind) first.operand ∙ e_given (index_bank row) s.fields.r s.fields.v s.reg (target s.place s.fields.x s.fields.b) s.imm row.kind first.slot first.passes (kind_of_target-target s.place s.fields.x s.fields.b ∙ is.kind))
+      | inr none ↦ inr none
+    ]
 
 -- what is asked where there is no operand: the least place, and neither X nor B
 no_x : (kind : Kind) → x_of (target_of kind nothing) ≡ false
@@ -261,9 +264,9 @@ imm_length false a b = refl
 
 bytes_length : (row : Row) (s : Syntax) → length (bytes_of row s) ≡ length (prefix_bytes s.form s.fields) + (1 + (length (place_bytes s.reg s.place) + length (imm_bytes (has_imm row) s.imm)))
 bytes_length row s =
-  let tail : List ℕ = place_bytes s.reg s.place ++ imm_bytes (has_imm row) s.imm in
-  length-append (prefix_bytes s.form s.fields) (row.entry.byte ∷ tail)
-  ∙ ap (λ n. length (prefix_bytes s.form s.fields) + n) (omega (arith, length-append (place_bytes s.reg s.place) (imm_bytes (has_imm row) s.imm)))
+    let tail : List ℕ = place_bytes s.reg s.place ++ imm_bytes (has_imm row) s.imm in
+    length-append (prefix_bytes s.form s.fields) (row.entry.byte ∷ tail)
+    ∙ ap (λ n. length (prefix_bytes s.form s.fields) + n) (omega (arith, length-append (place_bytes s.reg s.place) (imm_bytes (has_imm row) s.imm)))
 
 module _ (row : Row) (s : Syntax) (is_row : IsRow row) (is : IsSyntax row s) where
   -- the parts that are put together for the meaning of s
@@ -273,32 +276,32 @@ module _ (row : Row) (s : Syntax) (is_row : IsRow row) (is : IsSyntax row s) whe
   place_no_longer : length (place_bytes (candidate row (meant row s)).reg (candidate row (meant row s)).place) ≤ length (place_bytes s.reg s.place)
   unfolding candidate gives
   place_no_longer =
-    let reg = (candidate row (meant row s)).reg in
-    elim (asked row s is) [
-      inl e ↦ subst (λ e. length (place_bytes reg (shortest e)) ≤ length (place_bytes s.reg s.place)) (sym e) (shortest-least s.place s.fields.x s.fields.b reg s.reg is.place)
-    | inr none ↦ subst (λ o. length (place_bytes reg (shortest (target_of row.kind o))) ≤ length (place_bytes s.reg s.place)) (sym none) (least_place row.kind reg s.reg s.place is.kind)
-    ]
+      let reg = (candidate row (meant row s)).reg in
+      elim (asked row s is) [
+        | inl e ↦ subst (λ e. length (place_bytes reg (shortest e)) ≤ length (place_bytes s.reg s.place)) (sym e) (shortest-least s.place s.fields.x s.fields.b reg s.reg is.place)
+        | inr none ↦ subst (λ o. length (place_bytes reg (shortest (target_of row.kind o))) ≤ length (place_bytes s.reg s.place)) (sym none) (least_place row.kind reg s.reg s.place is.kind)
+      ]
 
   x_false : s.fields.x ≡ false → (candidate row (meant row s)).fields.x ≡ false
   unfolding candidate gives
   x_false none = elim (asked row s is) [
-      inl e ↦ ap x_of e ∙ true_or_false (x_of (target s.place s.fields.x s.fields.b)) s.fields.x (x_of-target s.place s.fields.x s.fields.b is.place) none
+    | inl e ↦ ap x_of e ∙ true_or_false (x_of (target s.place s.fields.x s.fields.b)) s.fields.x (x_of-target s.place s.fields.x s.fields.b is.place) none
     | inr e ↦ ap (λ o. x_of (target_of row.kind o)) e ∙ no_x row.kind
-    ]
+  ]
 
   b_false : s.fields.b ≡ false → (candidate row (meant row s)).fields.b ≡ false
   unfolding candidate gives
   b_false none = elim (asked row s is) [
-      inl e ↦ ap b_of e ∙ true_or_false (b_of (target s.place s.fields.x s.fields.b)) s.fields.b (b_of-target s.place s.fields.x s.fields.b is.place) none
+    | inl e ↦ ap b_of e ∙ true_or_false (b_of (target s.place s.fields.x s.fields.b)) s.fields.b (b_of-target s.place s.fields.x s.fields.b is.place) none
     | inr e ↦ ap (λ o. b_of (target_of row.kind o)) e ∙ no_b row.kind
-    ]
+  ]
 
   fits_again : FitsTwoBytes s.fields → fits_two_bytes (candidate row (meant row s)).fields ≡ true
   unfolding candidate
   fits_again fits =
-    let map : (map_number row.entry.map == 1) ≡ true = ap (λ m. map_number m == 1) (sym is.map ∙ fits.map) in
-    let w : not row.w ≡ true = false_not row.w (sym is.w ∙ fits.w) in
-    parts-both _ _ (parts-both _ _ (parts-both _ _ map w) (false_not _ (x_false fits.x))) (false_not _ (b_false fits.b))
+      let map : (map_number row.entry.map == 1) ≡ true = ap (λ m. map_number m == 1) (sym is.map ∙ fits.map) in
+      let w : not row.w ≡ true = false_not row.w (sym is.w ∙ fits.w) in
+      parts-both _ _ (parts-both _ _ (parts-both _ _ map w) (false_not _ (x_false fits.x))) (false_not _ (b_false fits.b))
 
   prefix_no_longer : length (prefix_bytes (candidate row (meant row s)).form (candidate row (meant row s)).fields) ≤ length (prefix_bytes s.form s.fields)
   unfolding candidate
@@ -311,4 +314,4 @@ module _ (row : Row) (s : Syntax) (is_row : IsRow row) (is : IsSyntax row s) whe
 -- the standard bytes are no longer than any that spell the meaning by the row
 pub standard_least : (row : Row) (m : Meaning) (bytes : List ℕ) → IsRow row → SpellsBy bytes m row → length (bytes_of row (candidate row m)) ≤ length bytes
 standard_least row m bytes is_row by =
-  subst₂ (λ n b. length (bytes_of row (candidate row n)) ≤ length b) (sym by.means) (sym by.written) (no_longer row by.parts is_row by.fits)
+    subst₂ (λ n b. length (bytes_of row (candidate row n)) ≤ length b) (sym by.means) (sym by.written) (no_longer row by.parts is_row by.fits)

@@ -41,11 +41,7 @@ pub fn assemble(
         r: prefix.r,
         vvvv: prefix.vvvv,
         reg: layout.group.unwrap_or(g % 8),
-        register: if layout.has_modrm {
-            Some(e % 16)
-        } else {
-            None
-        },
+        register: if layout.has_modrm { Some(e % 16) } else { None },
         imm,
     };
     (prefix, numbers)

@@ -15,10 +15,7 @@ use x86_operand::{DecodeError, Instruction};
 use x86_settings::InstDecoder;
 
 /// The instruction and its canonical bytes, with all that is known of them at once.
-fn recode_all(
-    decoder: &InstDecoder,
-    bytes: &[u8],
-) -> Result<(Instruction, Spelling), DecodeError>
+fn recode_all(decoder: &InstDecoder, bytes: &[u8]) -> Result<(Instruction, Spelling), DecodeError>
     ensures { Recodes decoder.now bytes.now result }
 {
     let instruction = decode(bytes)?;
@@ -37,10 +34,7 @@ fn recode_all(
 /// The error is that of the first step that fails: `Outside` where the first byte is neither C4 nor C5,
 /// `ExhaustedInput` where a byte that is read isn't there, `InvalidOpcode` where the map number or the look-up or a
 /// group refuses, or the settings do, and `InvalidOperand` where vvvv, L or the kind of operand does.
-pub fn recode(
-    decoder: &InstDecoder,
-    bytes: &[u8],
-) -> Result<(Instruction, Spelling), DecodeError>
+pub fn recode(decoder: &InstDecoder, bytes: &[u8]) -> Result<(Instruction, Spelling), DecodeError>
     // Exactly where a permitted spelling begins the bytes.
     ensures begun { IsOk result ↔ (blocked decoder.now bytes.now ≡ None) }
     ensures spelled { IfOk result (λ recoded. Spells (take recoded.0.len bytes.now) recoded.0.meaning) }

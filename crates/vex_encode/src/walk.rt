@@ -25,7 +25,11 @@ pub struct InstructionParts {
 
 /// The entry of an opcode byte behind a prefix.
 #[tactic(auto, unfolding(vex_decode::specs::Walk::entry_of))]
-fn find_entry<'a>(prefix: &Prefix, byte: u8, rest: &'a [u8]) -> Result<(Entry, &'a [u8]), DecodeError>
+fn find_entry<'a>(
+    prefix: &Prefix,
+    byte: u8,
+    rest: &'a [u8],
+) -> Result<(Entry, &'a [u8]), DecodeError>
     ensures entry { Gives (λ entry. entry) result (found (entry_of (key_of (fields_of prefix.now) byte)) rest.now) }
     ensures listed { FindsEntry result table }
 {

@@ -12,12 +12,12 @@ standard_by_entry-requires c = among_read table c.loop-i.i c.entry_at.result c.e
 
 pub loop-i-preserved : goal.loop-i-preserved
 loop-i-preserved c =
-  c.shorter-shortest.ensures
-  ∙ ap₂ shorter_of c.loop-i.invariant c.standard_by_entry.ensures
-  ∙ sym (best_more c.args.instruction.now.meaning table c.loop-i.i c.entry_at.result (omega arith) c.entry_at.ensures)
+    c.shorter-shortest.ensures
+    ∙ ap₂ shorter_of c.loop-i.invariant c.standard_by_entry.ensures
+    ∙ sym (best_more c.args.instruction.now.meaning table c.loop-i.i c.entry_at.result (omega arith) c.entry_at.ensures)
 
 pub returns : goal.returns
 returns c =
-  c.loop-i.invariant
-  ∙ ap (λ entries. best c.args.instruction.now.meaning (flat_map choices entries)) (ap (λ n. take n table) (omega arith) ∙ take-length table)
-  ∙ sym (canon-best c.args.instruction.now.meaning)
+    c.loop-i.invariant
+    ∙ ap (λ entries. best c.args.instruction.now.meaning (flat_map choices entries)) (ap (λ n. take n table) (omega arith) ∙ take-length table)
+    ∙ sym (canon-best c.args.instruction.now.meaning)

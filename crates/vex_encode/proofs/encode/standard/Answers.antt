@@ -13,11 +13,11 @@ instruction_of-requires c = ap slots_fit c.in_ok-layout.ensures.row.slots ∙ sl
 
 pub returns-then-has_same_meaning : goal.returns-then-has_same_meaning
 returns-then-has_same_meaning c =
-  let row = row_for c.args.entry.now c.args.w c.args.l false 0 in
-  let m = c.args.instruction.now.meaning in
-  let is = c.in_ok-layout.ensures.row in
-  let made = assembled_is c.args.entry.now c.args.w c.args.l 0 c.in_ok-layout.layout m c.assemble.result.0 c.assemble.result.1 is c.assemble.ensures in
-  standard_made row m c.instruction_of.result.meaning c.spell.result
+    let row = row_for c.args.entry.now c.args.w c.args.l false 0 in
+    let m = c.args.instruction.now.meaning in
+    let is = c.in_ok-layout.ensures.row in
+    let made = assembled_is c.args.entry.now c.args.w c.args.l 0 c.in_ok-layout.layout m c.assemble.result.0 c.assemble.result.1 is c.assemble.ensures in
+    standard_made row m c.instruction_of.result.meaning c.spell.result
     (second_true _ _ (c.in_ok-layout.ensures.exists.0 refl))
     (c.instruction_of.ensures row is ∙ meaning_made row c.in_ok-layout.layout m c.assemble.result.0 c.assemble.result.1 is made c.assemble.ensures.same_r c.assemble.ensures.same_vvvv)
     (c.has_same_meaning.ensures.0 c.if-has_same_meaning.true)
@@ -25,11 +25,11 @@ returns-then-has_same_meaning c =
 
 pub returns-else-has_same_meaning : goal.returns-else-has_same_meaning
 returns-else-has_same_meaning c =
-  let row = row_for c.args.entry.now c.args.w c.args.l false 0 in
-  let m = c.args.instruction.now.meaning in
-  let is = c.in_ok-layout.ensures.row in
-  let made = assembled_is c.args.entry.now c.args.w c.args.l 0 c.in_ok-layout.layout m c.assemble.result.0 c.assemble.result.1 is c.assemble.ensures in
-  standard_refused row m c.instruction_of.result.meaning
+    let row = row_for c.args.entry.now c.args.w c.args.l false 0 in
+    let m = c.args.instruction.now.meaning in
+    let is = c.in_ok-layout.ensures.row in
+    let made = assembled_is c.args.entry.now c.args.w c.args.l 0 c.in_ok-layout.layout m c.assemble.result.0 c.assemble.result.1 is c.assemble.ensures in
+    standard_refused row m c.instruction_of.result.meaning
     (second_true _ _ (c.in_ok-layout.ensures.exists.0 refl))
     (c.instruction_of.ensures row is ∙ meaning_made row c.in_ok-layout.layout m c.assemble.result.0 c.assemble.result.1 is made c.assemble.ensures.same_r c.assemble.ensures.same_vvvv)
     (λ e. let yes = c.has_same_meaning.ensures.1 e in cc)

@@ -9,5 +9,5 @@ use Rattle.vex_encode.proofs.operands.operands.Given as goal
 
 abbrev pub invariant-loop-i : goal.invariant-loop-i
 invariant-loop-i l =
-  (index_bank : RegisterBank) → map operand_meaning (take l.i l.operands)
-      ≡ map (slot_operand index_bank (bit l.numbers.r) l.numbers.vvvv l.numbers.reg (target_seen l.numbers.register) l.numbers.imm) (take l.i l.slots)
+    (index_bank : RegisterBank) → map operand_meaning (take l.i l.operands)
+    ≡ map (slot_operand index_bank (bit l.numbers.r) l.numbers.vvvv l.numbers.reg (target_seen l.numbers.register) l.numbers.imm) (take l.i l.slots)
