@@ -1,6 +1,6 @@
 -- What a decode, the permission and the canonical bytes say together.
 use Rattle.std.specs.Prelude.{◌≡◌, refl, ◌↔◌, ℕ, ◌-◌, Bool, true, false, List, length, take, Option, Some, None, Result, Ok, Err, IsOk, IfOk, IfErr, if◌then◌else◌}
-use Rattle.std.proofs.Common.{ap, sym, ◌∙◌, subst}
+use Rattle.std.proofs.Common.{arith, ap, sym, ◌∙◌, subst}
 use Rattle.x86_operand.specs.declared.error.DecodeError.{DecodeError}
 use Rattle.x86_operand.specs.declared.error.DecodeError.TheVariants.{InvalidOpcode}
 use Rattle.x86_operand.specs.Meaning.{Meaning, Decoded}
@@ -51,6 +51,7 @@ module _ (settings : List Bool) (bytes : List ℕ) (decoded : Decoded) (is : IsB
       let spells = canon_spells decoded.meaning spelling canonical in
       record {
         begun = begun permitted;
+      within = omega (arith, found.len);
         spelled = spelled;
         permitted = permitted;
         canonical = canonical;

@@ -1,4 +1,4 @@
-use Rattle.std.specs.Prelude.{◌≡◌, ℕ, Bool, true, false, List, take, Option, Some, None, Result, Ok, Err}
+use Rattle.std.specs.Prelude.{◌≡◌, ◌≤◌, ℕ, length, Bool, true, false, List, take, Option, Some, None, Result, Ok, Err}
 use Rattle.x86_operand.specs.declared.error.DecodeError.{DecodeError}
 use Rattle.x86_operand.specs.Meaning.{Decoded}
 use Rattle.x86_permit.specs.Permission.{permits}
@@ -9,6 +9,7 @@ use Rattle.vex_encode.specs.Canon.{canon}
 -- an instruction and its canonical bytes, for the spelling that begins some bytes
 pub record RecodesAs (settings : List Bool) (bytes : List ℕ) (decoded : Decoded) (spelling : List ℕ) : Type 0 where
   pub begun : blocked settings bytes ≡ None
+  pub within : decoded.len ≤ length bytes
   pub spelled : Spells (take decoded.len bytes) decoded.meaning
   pub permitted : permits settings false decoded.meaning.opcode ≡ true
   pub canonical : canon decoded.meaning ≡ Some spelling

@@ -1,6 +1,6 @@
 //! Decoding the instruction at the front of a slice, and its canonical bytes.
 
-ghost use Rattle.std.specs.Prelude.{◌≡◌, ◌↔◌, ℕ, IsOk, IfOk, IfErr, Some, None, true, false, take};
+ghost use Rattle.std.specs.Prelude.{◌≡◌, ◌≤◌, ◌↔◌, length, ℕ, IsOk, IfOk, IfErr, Some, None, true, false, take};
 ghost use Rattle.x86_permit.specs.Permission.{permits};
 ghost use Rattle.vex_decode.specs.Spelling.{Spells};
 ghost use Rattle.vex_decode.specs.Blocked.{blocked};
@@ -37,6 +37,7 @@ fn recode_all(decoder: &InstDecoder, bytes: &[u8]) -> Result<(Instruction, Spell
 pub fn recode(decoder: &InstDecoder, bytes: &[u8]) -> Result<(Instruction, Spelling), DecodeError>
     // Exactly where a permitted spelling begins the bytes.
     ensures begun { IsOk result ↔ (blocked decoder.now bytes.now ≡ None) }
+    ensures within { IfOk result (λ recoded. recoded.0.len ≤ length bytes.now) }
     ensures spelled { IfOk result (λ recoded. Spells (take recoded.0.len bytes.now) recoded.0.meaning) }
     ensures permitted { IfOk result (λ recoded. permits decoder.now false recoded.0.meaning.opcode ≡ true) }
 

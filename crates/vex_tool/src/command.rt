@@ -2,13 +2,18 @@
 
 ghost use Rattle.std.specs.Prelude.{◌≡◌};
 ghost use Rattle.vex_tool.specs.Command.{command, profile_named, command_of_two};
+ghost use Rattle.vex_tool.specs.ResultLine.{settings_of};
 
 use crate::words::Words;
+use x86_settings::InstDecoder;
 
 /// A named set of settings.
 #[derive(Clone, Copy, PartialEq, Eq, Debug)]
 pub enum Profile {
+    /// All settings.
     Default,
+    /// No settings.
+    Minimal,
 }
 
 /// What the program is asked to do.
@@ -19,12 +24,23 @@ pub enum Command {
 }
 
 impl Profile {
+    /// The settings of the profile.
+    pub fn settings(self) -> InstDecoder
+        ensures { result ≡ settings_of self }
+    {
+        match self {
+            Profile::Default => InstDecoder::default(),
+            Profile::Minimal => InstDecoder::minimal(),
+        }
+    }
+
     // The profile of this name.
     fn named(name: &str) -> Option<Profile>
         ensures { result ≡ profile_named name.now }
     {
         match name {
             "default" => Some(Profile::Default),
+            "minimal" => Some(Profile::Minimal),
             _ => None,
         }
     }

@@ -23,6 +23,7 @@ mod command;
 mod ends;
 mod input;
 mod line_buffer;
+mod line_text;
 mod memory_ends;
 mod report;
 mod result_line;
