@@ -4,7 +4,7 @@ ghost use Rattle.std.specs.Prelude.{◌≡◌, ◌≤◌, ◌+◌, ◌++◌, ◌
 ghost use Rattle.std.specs.Fmt.{signed_decimal};
 ghost use Rattle.arrayvec.specs.ArrayVec.{array_vec_len};
 ghost use Rattle.hex.specs.Hex.{encode_lower};
-ghost use Rattle.x86_operand.specs.Meaning.{operand_meaning};
+ghost use Rattle.x86_operand.specs.Meaning.{operand_meaning, memory};
 ghost use Rattle.vex_tool.specs.ResultLine.{register_text, base_text, index_text, operand_text};
 
 use arrayvec::ArrayVec;
@@ -62,5 +62,76 @@ fn push_register(text: &mut LineText, reg: RegSpec)
     push_all(text, letter);
     if reg.bank() != RegisterBank::RIP {
         push_number(text, reg.num());
+    }
+}
+
+/// Appends the base of an address, `-` for none.
+fn push_base(text: &mut LineText, base: Option<RegSpec>)
+    requires { array_vec_len text.old + 4 ≤ 256 }
+    ensures written { text.new.items ≡ text.old.items ++ base_text base }
+    ensures short { array_vec_len text.new ≤ array_vec_len text.old + 4 }
+{
+    match base {
+        Some(reg) => push_register(text, reg),
+        None => push_all(text, b"-"),
+    }
+}
+
+/// Appends the index of an address with its scale, `-` for none.
+fn push_index(text: &mut LineText, index: Option<Index>)
+    requires { array_vec_len text.old + 8 ≤ 256 }
+    ensures written { text.new.items ≡ text.old.items ++ index_text index }
+    ensures short { array_vec_len text.new ≤ array_vec_len text.old + 8 }
+{
+    match index {
+        Some(index) => {
+            push_register(text, index.reg);
+            push_all(text, b"*");
+            push_number(text, index.scale);
+        }
+        None => push_all(text, b"-"),
+    }
+}
+
+/// Appends an address: `m`, its base, its index and its displacement.
+fn push_address(text: &mut LineText, address: &Address)
+    requires { array_vec_len text.old + 26 ≤ 256 }
+    ensures written { text.new.items ≡ text.old.items ++ operand_text (memory address.now) }
+    ensures short { array_vec_len text.new ≤ array_vec_len text.old + 26 }
+{
+    push_all(text, b"m");
+    push_base(text, address.base);
+    push_all(text, b"/");
+    push_index(text, address.index);
+    push_all(text, b"/");
+    push_signed(text, address.disp);
+}
+
+/// Appends an operand.
+fn push_operand(text: &mut LineText, operand: &Operand)
+    requires { array_vec_len text.old + 26 ≤ 256 }
+    ensures written { text.new.items ≡ text.old.items ++ operand_text (operand_meaning operand.now) }
+    ensures short { array_vec_len text.new ≤ array_vec_len text.old + 26 }
+{
+    match operand {
+        Operand::Register { reg } => push_register(text, *reg),
+        Operand::ImmediateI8 { imm } => {
+            push_all(text, b"i");
+            push_signed(text, i32::from(*imm));
+        }
+        Operand::ImmediateU8 { imm } => {
+            push_all(text, b"u");
+            push_number(text, *imm);
+        }
+        Operand::MemDeref { base } => push_address(
+            text,
+            &Address {
+                base: Some(*base),
+                index: None,
+                disp: 0,
+            },
+        ),
+        Operand::Memory { address } => push_address(text, address),
+        Operand::Nothing => push_all(text, b"nothing"),
     }
 }
