@@ -18,3 +18,6 @@ mod walk;
 
 pub use recoder::recode;
 pub use spelling::Spelling;
+
+#[cfg(test)]
+mod tests;
