@@ -2,6 +2,7 @@ mod Computed
 pub mod Candidate
 pub mod Standard
 pub mod Canon
+pub mod CanonLaws
 pub mod Refusals
 pub mod Direct
 pub mod Fit

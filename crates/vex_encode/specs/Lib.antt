@@ -9,3 +9,4 @@ pub mod Decodes
 pub mod Assembly
 pub mod Encode
 pub mod Recode
+pub mod Laws

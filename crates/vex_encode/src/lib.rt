@@ -7,6 +7,7 @@ mod decode;
 mod encode;
 mod form;
 mod instruction;
+pub mod laws;
 mod operands;
 mod permit;
 mod prefix;

@@ -1,0 +1,26 @@
+//! What holds of all canonical bytes, each law as the contract of a function that does nothing.
+
+ghost use Rattle.vex_encode.specs.Laws.{CanonicalAgain, CanonicalNotBlocked, CanonicalSpells, CanonicalTellsApart, Shortest, StandardIsNone};
+
+/// Meanings that have a spelling have equal canonical bytes exactly where they are equal.
+pub fn canonical_tells_apart()
+    ensures { CanonicalTellsApart }
+{}
+
+/// Whatever bytes spell a meaning, its canonical bytes are there, spell it too, and are no longer.
+pub fn shortest()
+    ensures { Shortest }
+{}
+
+/// The canonical bytes of a meaning whose opcode is permitted are not blocked, spell that meaning, and are their own
+/// canonical bytes.
+pub fn recode_again()
+    ensures not_blocked { CanonicalNotBlocked }
+    ensures spells { CanonicalSpells }
+    ensures again { CanonicalAgain }
+{}
+
+/// A meaning has no standard bytes by a row exactly where no bytes of that row spell it.
+pub fn conditions()
+    ensures { StandardIsNone }
+{}
