@@ -4,3 +4,5 @@ pub mod LineMachineLemmas
 pub mod FeedLemmas
 pub mod RunLemmas
 pub mod RunClauses
+pub mod Texts
+pub mod Results

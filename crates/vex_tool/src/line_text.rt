@@ -1,15 +1,17 @@
 //! The text of a result line, put together in a fixed buffer.
 
-ghost use Rattle.std.specs.Prelude.{◌≡◌, ◌≤◌, ◌+◌, ◌++◌, ◌∷◌, [], length, decimal, codes};
+ghost use Rattle.std.specs.Prelude.{◌≡◌, ◌≤◌, ◌+◌, ◌++◌, length, decimal, unwrap_or};
 ghost use Rattle.std.specs.Fmt.{signed_decimal};
 ghost use Rattle.arrayvec.specs.ArrayVec.{array_vec_len};
 ghost use Rattle.hex.specs.Hex.{encode_lower};
+ghost use Rattle.x86_opcode.specs.Name.{opcode_name};
 ghost use Rattle.x86_operand.specs.Meaning.{operand_meaning, memory};
-ghost use Rattle.vex_tool.specs.ResultLine.{register_text, base_text, index_text, operand_text};
+ghost use Rattle.vex_tool.specs.ResultLine.{register_text, base_text, index_text, operand_text, operands_text, instruction_line};
 
 use arrayvec::ArrayVec;
 use itoa::Buffer;
-use x86_operand::{Address, Index, Operand, RegSpec, RegisterBank};
+use vex_encode::Spelling;
+use x86_operand::{Address, Index, Instruction, Opcode, Operand, RegSpec, RegisterBank};
 
 /// How many bytes a result line has, at most.
 pub const MAX_TEXT: usize = 256;
@@ -134,4 +136,67 @@ fn push_operand(text: &mut LineText, operand: &Operand)
         Operand::Memory { address } => push_address(text, address),
         Operand::Nothing => push_all(text, b"nothing"),
     }
+}
+
+/// Appends the operands of an instruction, a space before each.
+fn push_operands(text: &mut LineText, instruction: &Instruction)
+    requires { array_vec_len text.old + 108 ≤ 256 }
+    ensures written { text.new.items ≡ text.old.items ++ operands_text instruction.now.meaning.operands }
+    ensures short { array_vec_len text.new ≤ array_vec_len text.old + 108 }
+{
+    for i in 0..instruction.operand_count() {
+        push_all(text, b" ");
+        push_operand(text, &instruction.operand(i));
+    }
+}
+
+/// Appends an opcode's name.
+fn push_name(text: &mut LineText, opcode: Opcode)
+    requires { array_vec_len text.old + 32 ≤ 256 }
+    ensures written { text.new.items ≡ text.old.items ++ opcode_name opcode }
+    ensures short { array_vec_len text.new ≤ array_vec_len text.old + 32 }
+{
+    push_all(text, opcode.name().as_bytes());
+}
+
+/// Appends bytes in lower-case hex digits.
+fn push_hex(text: &mut LineText, bytes: &[u8])
+    requires few { length bytes.now ≤ 11 }
+    requires room { array_vec_len text.old + 22 ≤ 256 }
+    ensures written { text.new.items ≡ text.old.items ++ encode_lower bytes.now }
+    ensures short { array_vec_len text.new ≤ array_vec_len text.old + 22 }
+{
+    let mut digits = [0u8; 22];
+    let digits = &mut digits[..2 * bytes.len()];
+    match hex::encode_to_slice(bytes, digits) {
+        Ok(()) => push_all(text, digits),
+        Err(_) => unreachable!(),
+    }
+}
+
+/// The number of bytes of a memory operand, 0 for none.
+fn size_of(instruction: &Instruction) -> u8
+    ensures { result ≡ unwrap_or instruction.now.meaning.size 0 }
+{
+    match instruction.mem_size() {
+        Some(size) => size.bytes_size().unwrap_or(63),
+        None => 0,
+    }
+}
+
+/// The result line of an instruction and its canonical bytes, its line end included.
+pub fn instruction_text(instruction: &Instruction, spelling: &Spelling) -> LineText
+    ensures { result.items ≡ instruction_line instruction.now.len instruction.now.meaning spelling.now }
+{
+    let mut text = LineText::new();
+    push_number(&mut text, instruction.len());
+    push_all(&mut text, b" ");
+    push_name(&mut text, instruction.opcode());
+    push_operands(&mut text, instruction);
+    push_all(&mut text, b" ");
+    push_number(&mut text, size_of(instruction));
+    push_all(&mut text, b" ");
+    push_hex(&mut text, spelling.as_slice());
+    push_all(&mut text, b"\n");
+    text
 }

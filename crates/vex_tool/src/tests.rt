@@ -15,11 +15,11 @@ use std::test::Fail;
 
 // What the five lines of the input give.
 const ANSWERS: [&str; 5] = [
-    "error Outside\n",
+    "3 VZEROUPPER 0 c5f877\n",
     "error BadHex\n",
-    "error Outside\n",
+    "error ExhaustedInput\n",
     "error LongLine\n",
-    "error Outside\n",
+    "error InvalidOpcode\n",
 ];
 
 // Five lines: with blanks, of three digits, empty, of 8,193 bytes, and without a line end.
@@ -131,9 +131,9 @@ fn a_failed_write_leaves_a_front(rt: HostRuntime) -> Result<(), Fail> {
         );
     }
     let mut source = MemSource::new(input.as_slice(), 4096, &[]);
-    let mut room = [0u8; 20];
+    let mut room = [0u8; 40];
     let mut sink = MemSink::new(&mut room, &[]);
-    let want = (Status::WriteFault, b"error Outside\nerror ".as_slice());
+    let want = (Status::WriteFault, b"3 VZEROUPPER 0 c5f877\nerror BadHex\nerror".as_slice());
     check(&rt, rt.alloc(), &mut source, &mut sink, want, 5);
     Ok(())
 }
@@ -293,12 +293,12 @@ fn a_writer_of_std_gets_the_text_up_to_its_fault(rt: HostRuntime) -> Result<(), 
     assert_eq!(rt; out.as_slice(), text.as_slice());
 
     let mut source = MemSource::new(input.as_slice(), 4096, &[]);
-    let mut room = [0u8; 20];
+    let mut room = [0u8; 40];
     let mut sink = StdSink::new(room.as_mut_slice());
     assert_eq!(rt;
         run(rt.alloc(), &words, &mut source, &mut sink),
         Status::WriteFault
     );
-    assert_eq!(rt; room.as_slice(), b"error Outside\nerror ".as_slice());
+    assert_eq!(rt; room.as_slice(), b"3 VZEROUPPER 0 c5f877\nerror BadHex\nerror".as_slice());
     Ok(())
 }

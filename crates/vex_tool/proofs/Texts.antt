@@ -1,0 +1,48 @@
+-- The texts of operands, one after another, and how long an opcode's name is.
+use Rattle.std.specs.Prelude.{◌≡◌, refl, ℕ, ◌+◌, ◌<◌, ◌≤◌, nat_le, true, List, [], ◌∷◌, ◌++◌, length, take, codes, slice_index_or}
+use Rattle.std.proofs.Common.{arith, ap, sym, ◌∙◌, append_assoc, get_or}
+use Rattle.std.proofs.lemmas.List.{take_more}
+use Rattle.std.proofs.lemmas.Bool.Decides.{nat_tests}
+use Rattle.x86_opcode.specs.declared.Opcode.{Opcode}
+use Rattle.x86_opcode.specs.declared.Opcode.TheVariants.{Invalid, BSF, Legacy, Integer, Float, Fused, Marked}
+use Rattle.x86_opcode.specs.declared.LegacyOpcode.TheVariants as legacy
+use Rattle.x86_opcode.specs.declared.IntegerOpcode.TheVariants as integer
+use Rattle.x86_opcode.specs.declared.FloatOpcode.TheVariants as float
+use Rattle.x86_opcode.specs.declared.FusedOpcode.TheVariants as fused
+use Rattle.x86_opcode.specs.declared.MarkedOpcode.TheVariants as marked
+use Rattle.x86_opcode.specs.Name.{opcode_name}
+use Rattle.x86_operand.specs.Meaning.{OperandMeaning, nothing}
+use Rattle.vex_tool.specs.ResultLine.{operand_text, operands_text}
+
+operands_text-append : (xs ys : List OperandMeaning) → operands_text (xs ++ ys) ≡ operands_text xs ++ operands_text ys
+operands_text-append [] ys = refl
+operands_text-append (x ∷ xs) ys =
+  ap (λ rest. codes " " ++ operand_text x ++ rest) (operands_text-append xs ys)
+  ∙ sym (append_assoc (codes " " ++ operand_text x) (operands_text xs) (operands_text ys))
+
+-- one operand more
+pub operands_text-more : (operands : List OperandMeaning) (i : ℕ) → i < length operands → operands_text (take (i + 1) operands) ≡ operands_text (take i operands) ++ (codes " " ++ operand_text (slice_index_or operands i nothing))
+operands_text-more operands i h =
+  ap operands_text (take_more operands i nothing h)
+  ∙ operands_text-append (take i operands) (slice_index_or operands i nothing ∷ [])
+  ∙ ap (λ t. operands_text (take i operands) ++ t) (append_nil (codes " " ++ operand_text (slice_index_or operands i nothing))) where
+    append_nil : (xs : List ℕ) → xs ++ [] ≡ xs
+    append_nil [] = refl
+    append_nil (x ∷ xs) = ap (λ t. x ∷ t) (append_nil xs)
+
+-- no opcode's name is longer than 32 bytes
+name_test : (o : Opcode) → nat_le (length (opcode_name o)) 32 ≡ true
+unfolding opcode_name
+name_test Invalid = refl
+name_test BSF = refl
+name_test (Legacy legacy.FEMMS) = refl
+name_test (Integer integer.VZEROALL) = refl
+name_test (Float float.VADDPS) = refl
+name_test (Fused fused.VFMADD132PS) = refl
+name_test (Marked marked.VEXP2PD) = refl
+name_test _ = refl
+
+pub short_name : (o : Opcode) → length (opcode_name o) ≤ 32
+short_name o = below (length (opcode_name o)) (name_test o) where
+  below : (n : ℕ) → nat_le n 32 ≡ true → n ≤ 32
+  below n h = grind (arith, nat_tests)
