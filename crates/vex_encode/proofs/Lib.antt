@@ -3,6 +3,7 @@ pub mod Candidate
 pub mod Standard
 pub mod Canon
 pub mod CanonLaws
+pub mod Conditions
 pub mod Refusals
 pub mod Direct
 pub mod Fit

@@ -120,16 +120,16 @@ few_by : (has : Bool) (n : ℕ) → nat_le n (if has then 1 else 0) ≡ true →
 few_by true n h e = cc
 few_by false n h e = grind (arith, nat_tests)
 
-few_at_most : (has : Bool) (n : ℕ) → nat_le n (if has then 1 else 0) ≡ true → n ≤ 1
+pub few_at_most : (has : Bool) (n : ℕ) → nat_le n (if has then 1 else 0) ≡ true → n ≤ 1
 few_at_most true n h = grind (arith, nat_tests)
 few_at_most false n h = grind (arith, nat_tests)
 
-or_false : (a b : Bool) → (a || not b) ≡ true → a ≡ false → b ≡ false
+pub or_false : (a b : Bool) → (a || not b) ≡ true → a ≡ false → b ≡ false
 or_false true b h e = cc
 or_false false b h e = not_false b h
 
 -- a form without ModRM has no group
-group_none : (has : Bool) (gs : List (ℕ × Opcode)) (group : Option ℕ) → has ≡ false → Among group (if has then map (λ g. Some g.0) gs else None ∷ []) → group ≡ None
+pub group_none : (has : Bool) (gs : List (ℕ × Opcode)) (group : Option ℕ) → has ≡ false → Among group (if has then map (λ g. Some g.0) gs else None ∷ []) → group ≡ None
 group_none true gs group h m = cc
 group_none false gs group h (inl e) = e
 group_none false gs group h (inr e) = absurd e
@@ -167,11 +167,11 @@ module _ (row : Row) (m : Meaning) (is_row : IsRow row) where
         imm = imm_fits (steps row.entry.form).imm (operand_at names_imm (slots row) operands) (λ none. no_operand names_imm (slots row) operands (no_immediates (slots row) (few_by _ _ sound.immediates none)));
       }
 
-reg_below : (modrm : Bool) (reg : ℕ) → FitsReg modrm reg → reg < 8
+pub reg_below : (modrm : Bool) (reg : ℕ) → FitsReg modrm reg → reg < 8
 reg_below true reg h = h
 reg_below false reg h = omega arith
 
-imm_byte : (has : Bool) (imm : ℕ) → FitsImm has imm → imm < 256
+pub imm_byte : (has : Bool) (imm : ℕ) → FitsImm has imm → imm < 256
 imm_byte true imm h = h
 imm_byte false imm h = omega arith
 

@@ -1,5 +1,5 @@
 -- The laws of canonical bytes.
-use Rattle.std.specs.Prelude.{◌≡◌, ◌↔◌, ℕ, ◌≤◌, Bool, false, List, length, Some, None, IsTrue}
+use Rattle.std.specs.Prelude.{◌≡◌, ◌↔◌, ℕ, ◌≤◌, Bool, false, List, length, Some, None, IsSome, IsTrue}
 use Rattle.x86_operand.specs.Meaning.{Meaning}
 use Rattle.x86_permit.specs.Permission.{permits}
 use Rattle.vex_rows.specs.Row.{Row, IsRow}
@@ -7,6 +7,7 @@ use Rattle.vex_decode.specs.Spelling.{SpellsBy, Spells}
 use Rattle.vex_decode.specs.Blocked.{blocked}
 use Rattle.vex_encode.specs.Standard.{standard}
 use Rattle.vex_encode.specs.Canon.{canon}
+use Rattle.vex_encode.specs.Conditions.{CanGive}
 
 -- of meanings that have a spelling, the canonical bytes are equal exactly where the meanings are
 abbrev pub CanonicalTellsApart : Type 0
@@ -36,6 +37,10 @@ CanonicalSpells = (m : Meaning) (c : List ℕ) → canon m ≡ Some c → Spells
 -- canonical bytes are their own: whatever they mean has them as its canonical bytes
 abbrev pub CanonicalAgain : Type 0
 CanonicalAgain = (m n : Meaning) (c : List ℕ) → canon m ≡ Some c → Spells c n → canon n ≡ Some c
+
+-- there are standard bytes of a meaning by a row exactly where the row can give it
+abbrev pub StandardIsSome : Type 0
+StandardIsSome = (row : Row) (m : Meaning) → IsRow row → IsSome (standard row m) ↔ CanGive row m
 
 -- there are no standard bytes of a meaning by a row exactly where no bytes spell it by the row
 abbrev pub StandardIsNone : Type 0

@@ -9,4 +9,5 @@ pub mod Decodes
 pub mod Assembly
 pub mod Encode
 pub mod Recode
+pub mod Conditions
 pub mod Laws

@@ -1,6 +1,6 @@
 //! What holds of all canonical bytes, each law as the contract of a function that does nothing.
 
-ghost use Rattle.vex_encode.specs.Laws.{CanonicalAgain, CanonicalNotBlocked, CanonicalSpells, CanonicalTellsApart, Shortest, StandardIsNone};
+ghost use Rattle.vex_encode.specs.Laws.{CanonicalAgain, CanonicalNotBlocked, CanonicalSpells, CanonicalTellsApart, Shortest, StandardIsNone, StandardIsSome};
 
 /// Meanings that have a spelling have equal canonical bytes exactly where they are equal.
 pub fn canonical_tells_apart()
@@ -20,7 +20,9 @@ pub fn recode_again()
     ensures again { CanonicalAgain }
 {}
 
-/// A meaning has no standard bytes by a row exactly where no bytes of that row spell it.
+/// A meaning has standard bytes by a row exactly where it has the row's opcode and size, isn't marked as EVEX and its
+/// operands fit the row's slots, and has none exactly where no bytes of that row spell it.
 pub fn conditions()
-    ensures { StandardIsNone }
+    ensures there { StandardIsSome }
+    ensures none { StandardIsNone }
 {}

@@ -4,13 +4,13 @@ use Rattle.x86_operand.specs.Kind.{Kind, WithoutModRM, InRegister, InMemory}
 use Rattle.vex_rows.specs.declared.form.Form.{Form}
 use Rattle.vex_rows.specs.declared.form.Form.TheVariants.{Nothing, VMOVSS_10, VMOVSD_10, VMOVSS_11, VMOVSD_11}
 use Rattle.vex_rows.specs.Steps.{steps}
-use Rattle.vex_rows.specs.Row.{Row, row_at}
+use Rattle.vex_rows.specs.Row.{Row, row_at, has_groups}
 use Rattle.std.specs.List.{list_any}
 use Rattle.std.proofs.lemmas.Bool.{leb-true}
 use Rattle.vex_rows.proofs.Lists.{both-parts}
 use Rattle.vex_forms.specs.declared.slot.VvvvRule.TheVariants.{Named, Zero, Free}
 use Rattle.vex_forms.specs.Slots.{slots, slots_of, names_g, names_v, demands_v, v_rule}
-use Rattle.vex_forms.specs.Tests.{is_sound, is_distinct, immediates, has_few}
+use Rattle.vex_forms.specs.Tests.{is_sound, is_distinct, is_free, immediates, has_few}
 
 -- by the kind of a row, for the forms whose slots depend on it
 by_kind : (test : Kind → Bool) → test WithoutModRM ≡ true → test InRegister ≡ true → test InMemory ≡ true → (kind : Kind) → test kind ≡ true
@@ -35,6 +35,16 @@ distinct VMOVSD_10 row = by_kind (λ kind. is_distinct (slots_of VMOVSD_10 (row_
 distinct VMOVSS_11 row = by_kind (λ kind. is_distinct (slots_of VMOVSS_11 (row_at row.entry row.w row.l kind row.group))) refl refl refl row.kind
 distinct VMOVSD_11 row = by_kind (λ kind. is_distinct (slots_of VMOVSD_11 (row_at row.entry row.w row.l kind row.group))) refl refl refl row.kind
 distinct _ row = refl
+
+-- no form names a field that isn't free
+pub free : (form : Form) (row : Row) → is_free form row ≡ true
+unfolding steps has_groups
+free Nothing row = refl
+free VMOVSS_10 row = by_kind (λ kind. is_free VMOVSS_10 (row_at row.entry row.w row.l kind row.group)) refl refl refl row.kind
+free VMOVSD_10 row = by_kind (λ kind. is_free VMOVSD_10 (row_at row.entry row.w row.l kind row.group)) refl refl refl row.kind
+free VMOVSS_11 row = by_kind (λ kind. is_free VMOVSS_11 (row_at row.entry row.w row.l kind row.group)) refl refl refl row.kind
+free VMOVSD_11 row = by_kind (λ kind. is_free VMOVSD_11 (row_at row.entry row.w row.l kind row.group)) refl refl refl row.kind
+free _ row = refl
 
 few : (form : Form) (row : Row) → has_few form row ≡ true
 few Nothing row = refl

@@ -4,7 +4,7 @@ use Rattle.std.specs.List.{list_any, count_by}
 -- What the slots of a row must be for the laws of spellings: a test that is computed.
 use Rattle.vex_rows.specs.declared.form.Form.{Form}
 use Rattle.vex_rows.specs.Steps.{steps}
-use Rattle.vex_rows.specs.Row.{Row}
+use Rattle.vex_rows.specs.Row.{Row, has_groups}
 use Rattle.vex_forms.specs.declared.slot.Slot.{Slot}
 use Rattle.vex_forms.specs.Slots.{slots_of, names_g, names_v, names_e, names_imm, demands_v}
 
@@ -25,6 +25,13 @@ is_sound form row =
 -- whether no field is named twice: at most one slot each names reg, vvvv and the operand E
 abbrev pub is_distinct : List Slot → Bool
 is_distinct slots = nat_le (count_by names_g slots) 1 && nat_le (count_by names_v slots) 1 && nat_le (count_by names_e slots) 1
+
+-- whether the fields that slots name are free for them: with groups no slot names the field reg, which says the group,
+-- and without ModRM no slot names the operand E
+abbrev pub is_free : Form → Row → Bool
+is_free form row =
+    (not (has_groups form) || not (list_any names_g (slots_of form row)))
+    && ((steps form).modrm || not (list_any names_e (slots_of form row)))
 
 -- whether a form has at most four slots
 abbrev pub has_few : Form → Row → Bool
