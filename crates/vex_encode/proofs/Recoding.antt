@@ -51,7 +51,7 @@ module _ (settings : List Bool) (bytes : List ℕ) (decoded : Decoded) (is : IsB
       let spells = canon_spells decoded.meaning spelling canonical in
       record {
         begun = begun permitted;
-      within = omega (arith, found.len);
+        within = omega (arith, found.len);
         spelled = spelled;
         permitted = permitted;
         canonical = canonical;

@@ -17,18 +17,18 @@ use Rattle.vex_tool.specs.ResultLine.{operand_text, operands_text}
 operands_text-append : (xs ys : List OperandMeaning) → operands_text (xs ++ ys) ≡ operands_text xs ++ operands_text ys
 operands_text-append [] ys = refl
 operands_text-append (x ∷ xs) ys =
-  ap (λ rest. codes " " ++ operand_text x ++ rest) (operands_text-append xs ys)
-  ∙ sym (append_assoc (codes " " ++ operand_text x) (operands_text xs) (operands_text ys))
+    ap (λ rest. codes " " ++ operand_text x ++ rest) (operands_text-append xs ys)
+    ∙ sym (append_assoc (codes " " ++ operand_text x) (operands_text xs) (operands_text ys))
 
 -- one operand more
 pub operands_text-more : (operands : List OperandMeaning) (i : ℕ) → i < length operands → operands_text (take (i + 1) operands) ≡ operands_text (take i operands) ++ (codes " " ++ operand_text (slice_index_or operands i nothing))
 operands_text-more operands i h =
-  ap operands_text (take_more operands i nothing h)
-  ∙ operands_text-append (take i operands) (slice_index_or operands i nothing ∷ [])
-  ∙ ap (λ t. operands_text (take i operands) ++ t) (append_nil (codes " " ++ operand_text (slice_index_or operands i nothing))) where
-    append_nil : (xs : List ℕ) → xs ++ [] ≡ xs
-    append_nil [] = refl
-    append_nil (x ∷ xs) = ap (λ t. x ∷ t) (append_nil xs)
+    ap operands_text (take_more operands i nothing h)
+    ∙ operands_text-append (take i operands) (slice_index_or operands i nothing ∷ [])
+    ∙ ap (λ t. operands_text (take i operands) ++ t) (append_nil (codes " " ++ operand_text (slice_index_or operands i nothing))) where
+      append_nil : (xs : List ℕ) → xs ++ [] ≡ xs
+      append_nil [] = refl
+      append_nil (x ∷ xs) = ap (λ t. x ∷ t) (append_nil xs)
 
 -- no opcode's name is longer than 32 bytes
 name_test : (o : Opcode) → nat_le (length (opcode_name o)) 32 ≡ true

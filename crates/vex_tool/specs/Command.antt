@@ -8,8 +8,8 @@ use Rattle.vex_tool.specs.declared.command.Command.TheVariants.{Recode}
 -- the profile of a name
 abbrev pub profile_named : List ℕ → Option Profile
 profile_named name =
-  if bytes_eq name (codes "default") then Some Default
-  else if bytes_eq name (codes "minimal") then Some Minimal else None
+    if bytes_eq name (codes "default") then Some Default
+    else if bytes_eq name (codes "minimal") then Some Minimal else None
 
 -- the command of a verb and the word after it
 abbrev pub command_of_two : List ℕ → List ℕ → Option Command

@@ -60,8 +60,8 @@ operands_text (operand ∷ operands) = codes " " ++ operand_text operand ++ oper
 -- the line of an instruction: the number of bytes read, the opcode, the operands, the memory size, the canonical bytes
 abbrev pub instruction_line : ℕ → Meaning → List ℕ → List ℕ
 instruction_line n m bytes =
-  decimal n ++ codes " " ++ opcode_name m.opcode ++ operands_text m.operands ++ codes " " ++ decimal (unwrap_or m.size 0)
-  ++ codes " " ++ encode_lower bytes ++ codes "\n"
+    decimal n ++ codes " " ++ opcode_name m.opcode ++ operands_text m.operands ++ codes " " ++ decimal (unwrap_or m.size 0)
+    ++ codes " " ++ encode_lower bytes ++ codes "\n"
 
 -- the settings of a profile
 abbrev pub settings_of : Profile → List Bool

@@ -7,7 +7,7 @@ ghost use Rattle.vex_tool.specs.ErrorLine.{error_line};
 ghost use Rattle.vex_tool.specs.ResultLine.{result_line};
 
 use crate::ends::{Failed, Sink};
-use crate::line_text::{instruction_text, push_all, LineText};
+use crate::line_text::{LineText, instruction_text, push_all};
 use vex_encode::recode;
 use x86_operand::DecodeError;
 use x86_settings::InstDecoder;

@@ -133,7 +133,10 @@ fn a_failed_write_leaves_a_front(rt: HostRuntime) -> Result<(), Fail> {
     let mut source = MemSource::new(input.as_slice(), 4096, &[]);
     let mut room = [0u8; 40];
     let mut sink = MemSink::new(&mut room, &[]);
-    let want = (Status::WriteFault, b"3 VZEROUPPER 0 c5f877\nerror BadHex\nerror".as_slice());
+    let want = (
+        Status::WriteFault,
+        b"3 VZEROUPPER 0 c5f877\nerror BadHex\nerror".as_slice(),
+    );
     check(&rt, rt.alloc(), &mut source, &mut sink, want, 5);
     Ok(())
 }
@@ -299,6 +302,9 @@ fn a_writer_of_std_gets_the_text_up_to_its_fault(rt: HostRuntime) -> Result<(), 
         run(rt.alloc(), &words, &mut source, &mut sink),
         Status::WriteFault
     );
-    assert_eq!(rt; room.as_slice(), b"3 VZEROUPPER 0 c5f877\nerror BadHex\nerror".as_slice());
+    assert_eq!(rt;
+        room.as_slice(),
+        b"3 VZEROUPPER 0 c5f877\nerror BadHex\nerror".as_slice()
+    );
     Ok(())
 }

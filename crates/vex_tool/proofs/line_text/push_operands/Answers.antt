@@ -14,11 +14,12 @@ loop-i-preserved c =
     let before = operands_text (take i operands) in
     let operand = operand_text (operand_at operands i) in
     let within : i < length operands = omega (arith, c.loop-i-test.true, c.operand_count-i-end.ensures.value, c.loop-i.auto.i-end) in
-    let spaced = ap length c.push_all.ensures ∙ length-append c.loop-i.text.items (codes " ") in
-    ( c.push_operand.ensures.written
-      ∙ ap (λ t. t ++ operand_text (operand_meaning c.operand.result)) (c.push_all.ensures ∙ ap (λ t. t ++ codes " ") c.loop-i.invariant.0)
-      ∙ ap (λ m. ((front ++ before) ++ codes " ") ++ operand_text m) c.operand.ensures.meaning
-      ∙ append_assoc (front ++ before) (codes " ") operand
-      ∙ append_assoc front before (codes " " ++ operand)
-      ∙ ap (λ t. front ++ t) (sym (operands_text-more operands i within))
-    , omega (arith, c.push_operand.ensures.short, spaced, c.loop-i.invariant.1) )
+    let spaced = ap length c.push_all.ensures ∙ length-append c.loop-i.text.items (codes " ") in (
+      c.push_operand.ensures.written
+          ∙ ap (λ t. t ++ operand_text (operand_meaning c.operand.result)) (c.push_all.ensures ∙ ap (λ t. t ++ codes " ") c.loop-i.invariant.0)
+          ∙ ap (λ m. ((front ++ before) ++ codes " ") ++ operand_text m) c.operand.ensures.meaning
+          ∙ append_assoc (front ++ before) (codes " ") operand
+          ∙ append_assoc front before (codes " " ++ operand)
+          ∙ ap (λ t. front ++ t) (sym (operands_text-more operands i within)),
+      omega (arith, c.push_operand.ensures.short, spaced, c.loop-i.invariant.1),
+    )

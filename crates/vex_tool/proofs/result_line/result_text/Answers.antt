@@ -6,7 +6,7 @@ pub returns-in-Ok : goal.returns-in-Ok
 returns-in-Ok c =
     c.instruction_text.ensures
     ∙ sym (line-recoded c.args.settings.now c.args.bytes.now _ _ _
-        (c.in-Ok.ensures.begun.0 refl) c.in-Ok.ensures.within c.in-Ok.ensures.spelled c.in-Ok.ensures.canonical)
+    (c.in-Ok.ensures.begun.0 refl) c.in-Ok.ensures.within c.in-Ok.ensures.spelled c.in-Ok.ensures.canonical)
 
 pub returns-in-Err : goal.returns-in-Err
 returns-in-Err c =
