@@ -1,20 +1,19 @@
 -- What the code puts together for a row of registers are the parts of the standard spelling.
-use Rattle.std.specs.Prelude.{◌≡◌, refl, ℕ, ◌+◌, ◌*◌, ◌/◌, ◌%◌, ◌<◌, Bool, true, false, ◌&&◌, ◌==◌, List, Option, Some, None, unwrap_or, if◌then◌else◌}
-use Rattle.std.proofs.Common.{arith, ap, ap₂, sym, ◌∙◌, subst}
+use Rattle.std.specs.Prelude.{◌≡◌, refl, ℕ, ◌/◌, ◌%◌, Bool, true, false, ◌&&◌, ◌==◌, Option, Some, None, unwrap_or, if◌then◌else◌}
+use Rattle.std.proofs.Common.{arith, ap, ap₂, sym, ◌∙◌}
 use Rattle.x86_operand.specs.Kind.{Kind, WithoutModRM, InRegister, InMemory}
 use Rattle.x86_operand.specs.Meaning.{OperandMeaning, Meaning}
 use Rattle.x86_address.specs.Bytes.{bit}
-use Rattle.x86_address.specs.Place.{Place, NoPlace, Direct, Number, target}
+use Rattle.x86_address.specs.Place.{Direct, Number, target}
 use Rattle.x86_address.specs.Shortest.{shortest, x_of, b_of}
 use Rattle.vex_rows.specs.declared.entry.Entry.{Entry}
 use Rattle.vex_rows.specs.declared.key.Prefix.{Prefix}
 use Rattle.vex_rows.specs.Steps.{steps}
 use Rattle.vex_rows.specs.Row.{Row}
 use Rattle.vex_forms.specs.declared.row_layout.RowLayout.{RowLayout}
-use Rattle.vex_forms.specs.declared.slot.Slot.{Slot}
 use Rattle.vex_forms.specs.Slots.{slots, names_g, names_v, names_e, names_imm}
 use Rattle.vex_forms.specs.Layout.{IsLayout, row_for}
-use Rattle.vex_decode.specs.Fields.{Fields, fields_of}
+use Rattle.vex_decode.specs.Fields.{fields_of}
 use Rattle.vex_decode.proofs.Prefix.{bit-is_one}
 use Rattle.vex_encode.specs.declared.operands.Numbers.{Numbers}
 use Rattle.vex_encode.specs.Standard.{operand_at, number_of, imm_of, target_of, reg_for, candidate}

@@ -1,17 +1,16 @@
 -- The parts that are put together for a meaning are those of a spelling by the row, and mean it where anything of the row does.
-use Rattle.std.specs.Prelude.{◌≡◌, refl, ◌⊎◌, ℕ, ◌+◌, ◌*◌, ◌/◌, ◌%◌, ◌<◌, ◌≤◌, Bool, true, false, not, ◌&&◌, ◌||◌, nat_le, ◌==◌, List, [], ◌∷◌, ◌++◌, map, Option, Some, None, if◌then◌else◌}
+use Rattle.std.specs.Prelude.{◌≡◌, refl, ◌⊎◌, ℕ, ◌+◌, ◌*◌, ◌/◌, ◌%◌, ◌<◌, ◌≤◌, Bool, true, false, ◌||◌, List, [], ◌∷◌, map, Option, Some, None, if◌then◌else◌}
 use Rattle.std.specs.Int.{cast_signed, cast_unsigned, w8}
-use Rattle.std.specs.List.{list_any, list_all}
+use Rattle.std.specs.List.{list_any}
 use Rattle.std.proofs.Common.{arith, ap, ap₂, sym, ◌∙◌, inl, inr, subst}
-use Rattle.std.proofs.lemmas.Bool.Decides.{nat_tests}
-use Rattle.std.proofs.lemmas.Int.{ints, of_z-to_z}
+use Rattle.std.proofs.lemmas.Int.{of_z-to_z}
 use Rattle.x86_operand.specs.declared.register.RegisterBank.{RegisterBank}
 use Rattle.x86_operand.specs.Kind.{Kind, WithoutModRM, InRegister, InMemory}
-use Rattle.x86_operand.specs.Meaning.{OperandMeaning, register, signed, unsigned, memory, nothing, Meaning}
+use Rattle.x86_operand.specs.Meaning.{OperandMeaning, register, signed, unsigned, nothing}
 use Rattle.x86_address.specs.Place.{Place, Target, NoTarget, Number, At, kind_of, kind_of_target, IsPlace, target}
-use Rattle.x86_address.specs.Shortest.{shortest, plain, in_banks, x_of, b_of}
-use Rattle.x86_address.proofs.Shortest.{is_place-shortest, kind_of-shortest, kind_of_target-target, target-shortest, plain-in_banks}
-use Rattle.vex_rows.specs.Row.{Row, Among}
+use Rattle.x86_address.specs.Shortest.{shortest, x_of, b_of}
+use Rattle.x86_address.proofs.Shortest.{kind_of_target-target, target-shortest, plain-in_banks}
+use Rattle.vex_rows.specs.Row.{Among}
 use Rattle.vex_forms.specs.declared.slot.Slot.{Slot}
 use Rattle.vex_forms.specs.declared.slot.Slot.TheVariants.{G, V, E, U8, I8, R4}
 use Rattle.vex_forms.specs.Gives.{slot_operand, target_operand}

@@ -4,8 +4,8 @@ use Rattle.std.specs.List.{cons_option}
 use Rattle.std.proofs.Common.{arith, ap, sym, ◌∙◌, inl, inr, subst}
 use Rattle.std.proofs.lemmas.Bool.Decides.{nat_tests}
 use Rattle.x86_operand.specs.Meaning.{Meaning}
-use Rattle.vex_rows.specs.Row.{Row, Among, IsRow, rows}
-use Rattle.vex_decode.specs.Spelling.{bytes_of, SpellsBy, Spells}
+use Rattle.vex_rows.specs.Row.{Among, IsRow, rows}
+use Rattle.vex_decode.specs.Spelling.{bytes_of, Spells}
 use Rattle.vex_encode.specs.Standard.{candidate, standard}
 use Rattle.vex_encode.specs.Canon.{shorter, first_shortest, all_standard, canon}
 use Rattle.vex_encode.proofs.Standard.{standard_there, standard_spells, standard_least}

@@ -1,23 +1,21 @@
 -- The parts that were read of an instruction choose a row.
-use Rattle.std.specs.Prelude.{◌≡◌, refl, ℕ, ◌<◌, ◌≤◌, ◌+◌, Bool, true, false, ◌&&◌, List, [], ◌∷◌, Option, Some, None, Ok, if◌then◌else◌}
-use Rattle.std.specs.List.{list_all}
+use Rattle.std.specs.Prelude.{◌≡◌, refl, ℕ, ◌<◌, ◌+◌, Bool, true, false, List, [], ◌∷◌, Option, Some, None, Ok, if◌then◌else◌}
 use Rattle.std.specs.Option.{ForSome}
-use Rattle.std.proofs.Common.{length-append, ◌++◌, length, inl, inr, suc, arith, ap, sym, ◌∙◌, subst, get_or}
-use Rattle.x86_operand.specs.Kind.{Kind, WithoutModRM, InRegister, InMemory}
+use Rattle.std.proofs.Common.{length-append, length, inl, inr, suc, arith, ap, sym, ◌∙◌, subst, get_or}
+use Rattle.x86_operand.specs.Kind.{WithoutModRM, InRegister, InMemory}
 use Rattle.x86_address.specs.Bytes.{bit, IsBytes}
 use Rattle.x86_address.specs.Place.{kind_of, IsPlace}
-use Rattle.vex_rows.specs.Rules.{allows}
 use Rattle.vex_rows.specs.Steps.{steps}
-use Rattle.vex_rows.specs.Row.{Row, Among, IsRow, exists, kinds_of}
+use Rattle.vex_rows.specs.Row.{Row, Among, exists}
 use Rattle.vex_rows.proofs.Lists.{parts-both}
 use Rattle.vex_rows.proofs.Rows.{Chosen, chosen-row}
-use Rattle.vex_forms.specs.Layout.{row_for, kind_for}
+use Rattle.vex_forms.specs.Layout.{row_for}
 use Rattle.vex_decode.specs.Fields.{PrefixForm}
-use Rattle.vex_decode.specs.Spelling.{FitsReg, IsSyntax}
+use Rattle.vex_decode.specs.Spelling.{FitsReg}
 use Rattle.vex_decode.specs.Walk.{walk}
 use Rattle.vex_decode.specs.Spelling.{bytes_of}
 use Rattle.vex_decode.proofs.SpellingBytes.{bytes_of_length}
-use Rattle.vex_decode.proofs.Walk.{Walked, walk-written}
+use Rattle.vex_decode.proofs.Walk.{walk-written}
 use Rattle.vex_encode.specs.declared.walk.InstructionParts.{InstructionParts}
 use Rattle.vex_encode.specs.Form.{place_seen}
 use Rattle.std.specs.Prelude.{Result, Err, IfOk}

@@ -1,5 +1,5 @@
 -- The entries of the table have forms that read no address.
-use Rattle.std.specs.Prelude.{◌≡◌, refl, ℕ, Bool, true, false, not, List}
+use Rattle.std.specs.Prelude.{◌≡◌, refl, ℕ, Bool, true, false, not}
 use Rattle.std.specs.List.{list_all}
 use Rattle.vex_rows.specs.declared.entry.Entry.{Entry}
 use Rattle.vex_rows.specs.declared.key.Prefix.{Prefix}

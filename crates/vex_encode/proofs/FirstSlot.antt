@@ -1,6 +1,6 @@
 -- The search for the first slot of a kind, place by place.
 use Rattle.std.specs.Prelude.{◌≡◌, refl, ℕ, ◌+◌, ◌<◌, ◌≤◌, Bool, true, false, List, [], ◌∷◌, length, drop, slice_index_or, if◌then◌else◌}
-use Rattle.std.proofs.Common.{zero, suc, arith, ap, sym, ◌∙◌, get_or, add-one}
+use Rattle.std.proofs.Common.{zero, suc, arith, sym, ◌∙◌, get_or, add-one}
 use Rattle.x86_operand.specs.Meaning.{OperandMeaning, nothing}
 use Rattle.vex_forms.specs.declared.slot.Slot.{Slot}
 use Rattle.vex_encode.specs.Standard.{operand_at}

@@ -1,11 +1,10 @@
 -- The bank of every slot of a row has sixteen registers.
 use Rattle.std.specs.Prelude.{◌≡◌, refl, ℕ, Bool, true, false, ◌==◌, ◌&&◌, List, [], ◌∷◌, if◌then◌else◌}
-use Rattle.std.proofs.Common.{◌∙◌, ap}
 use Rattle.x86_opcode.specs.declared.Opcode.{Opcode}
 use Rattle.x86_opcode.specs.declared.Opcode.TheVariants.{Integer, Float}
 use Rattle.x86_opcode.specs.declared.IntegerOpcode.TheVariants as integer
 use Rattle.x86_opcode.specs.declared.FloatOpcode.TheVariants as float
-use Rattle.x86_operand.specs.declared.register.RegisterBank.TheVariants.{Q, D, X, Y}
+use Rattle.x86_operand.specs.declared.register.RegisterBank.TheVariants.{X, Y}
 use Rattle.vex_rows.specs.declared.form.Form.{Form}
 use Rattle.vex_rows.specs.declared.form.Form.TheVariants.{Nothing, VMOVSS_10, VMOVSD_10, VMOVSS_11, VMOVSD_11}
 use Rattle.vex_rows.specs.Row.{Row, is_memory}

@@ -1,25 +1,24 @@
 -- What the code makes of a row is its standard spelling.
-use Rattle.std.specs.Prelude.{◌≡◌, ◌≢◌, refl, ℕ, ◌++◌, ◌∷◌, Bool, true, false, ◌&&◌, List, Option, Some, None, IsTrue, if◌then◌else◌}
-use Rattle.std.proofs.Common.{ap, ap₂, sym, ◌∙◌, subst}
+use Rattle.std.specs.Prelude.{◌≡◌, ◌≢◌, refl, ℕ, ◌++◌, ◌∷◌, Bool, true, false, ◌&&◌, List, Some, None, IsTrue}
+use Rattle.std.proofs.Common.{ap, sym, ◌∙◌}
 use Rattle.x86_operand.specs.Meaning.{Meaning}
 use Rattle.x86_operand.specs.Same.{same_meaning}
 use Rattle.x86_operand.specs.Same.Laws.{same_meaning_equal, same_meaning_refl}
 use Rattle.x86_address.specs.Bytes.{bit}
 use Rattle.x86_address.specs.Place.{place_bytes}
-use Rattle.vex_rows.specs.declared.entry.Entry.{Entry}
 use Rattle.vex_rows.specs.declared.key.Prefix.{Prefix}
-use Rattle.vex_rows.specs.Row.{Row, exists, has_imm}
+use Rattle.vex_rows.specs.Row.{Row, exists}
 use Rattle.vex_forms.specs.declared.row_layout.RowLayout.{RowLayout}
-use Rattle.vex_forms.specs.Layout.{IsLayout, row_for}
+use Rattle.vex_forms.specs.Layout.{IsLayout}
 use Rattle.vex_forms.specs.Gives.{gives}
 use Rattle.vex_decode.specs.Fields.{Fields, fields_of, prefix_bytes}
 use Rattle.vex_decode.specs.Spelling.{bytes_of, meant, imm_bytes}
 use Rattle.vex_encode.specs.declared.operands.Numbers.{Numbers}
 use Rattle.vex_encode.specs.Standard.{candidate, standard, shortest_form}
 use Rattle.vex_encode.specs.Operands.{target_seen}
-use Rattle.vex_encode.specs.Assembly.{Assembles, place_for}
+use Rattle.vex_encode.specs.Assembly.{place_for}
 use Rattle.vex_encode.specs.Encode.{standard_of}
-use Rattle.vex_encode.proofs.Assembled.{IsCandidate, assembled_is}
+use Rattle.vex_encode.proofs.Assembled.{IsCandidate}
 
 form_of_candidate : (row : Row) (m : Meaning) → (candidate row m).form ≡ shortest_form (candidate row m).fields
 unfolding candidate

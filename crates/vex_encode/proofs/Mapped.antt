@@ -1,5 +1,5 @@
 -- One more element of a list that is mapped place by place.
-use Rattle.std.proofs.Common.{◌≡◌, ℕ, ◌+◌, ◌<◌, List, [], ◌∷◌, ◌++◌, map, length, take, set, get_or, refl, ap, ap₂, sym, ◌∙◌}
+use Rattle.std.proofs.Common.{◌≡◌, ℕ, ◌+◌, ◌<◌, List, [], ◌∷◌, ◌++◌, map, length, take, set, get_or, ap, ap₂, sym, ◌∙◌}
 use Rattle.std.proofs.lemmas.List.{map-append, take_more, take_more_set}
 use Rattle.std.proofs.Math.Seq.{take-length}
 

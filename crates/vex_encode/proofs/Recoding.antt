@@ -1,13 +1,13 @@
 -- What a decode, the permission and the canonical bytes say together.
-use Rattle.std.specs.Prelude.{◌≡◌, refl, ◌↔◌, ℕ, ◌-◌, Bool, true, false, List, length, take, Option, Some, None, Result, Ok, Err, IsOk, IfOk, IfErr, if◌then◌else◌}
-use Rattle.std.proofs.Common.{arith, ap, sym, ◌∙◌, subst}
+use Rattle.std.specs.Prelude.{◌≡◌, refl, ◌↔◌, ℕ, Bool, true, false, List, take, Some, None, Result, Ok, Err, IsOk, IfOk, IfErr}
+use Rattle.std.proofs.Common.{arith, ap, sym, ◌∙◌}
 use Rattle.x86_operand.specs.declared.error.DecodeError.{DecodeError}
 use Rattle.x86_operand.specs.declared.error.DecodeError.TheVariants.{InvalidOpcode}
 use Rattle.x86_operand.specs.Meaning.{Meaning, Decoded}
 use Rattle.x86_permit.specs.Permission.{permits}
 use Rattle.x86_address.specs.Bytes.{IsBytes}
-use Rattle.vex_rows.specs.Row.{Row, opcode_of}
-use Rattle.vex_decode.specs.Spelling.{Syntax, bytes_of, Spells}
+use Rattle.vex_rows.specs.Row.{opcode_of}
+use Rattle.vex_decode.specs.Spelling.{bytes_of, Spells}
 use Rattle.vex_decode.specs.Walk.{walk}
 use Rattle.vex_decode.specs.Blocked.{blocked, refused, taken}
 use Rattle.vex_decode.proofs.Walk.{Walked, walk-written}

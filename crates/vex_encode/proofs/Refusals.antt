@@ -1,12 +1,10 @@
 -- Where the reading of a prefix ends.
-use Rattle.std.specs.Prelude.{◌≡◌, refl, ◌⊎◌, ◌≢◌, ℕ, ◌%◌, Bool, true, false, ◌==◌, List, [], ◌∷◌, Option, Some, None, Ok, Err, if◌then◌else◌}
-use Rattle.std.proofs.Common.{ap, ◌∙◌}
+use Rattle.std.specs.Prelude.{◌≡◌, refl, ◌≢◌, ℕ, ◌%◌, Bool, true, false, ◌==◌, List, None, Ok, Err, if◌then◌else◌}
+use Rattle.std.proofs.Common.{ap}
 use Rattle.std.proofs.lemmas.Bool.{eqb-true}
-use Rattle.std.proofs.lemmas.Bool.Decides.{nat_tests}
-use Rattle.std.proofs.Common.{arith}
 use Rattle.x86_operand.specs.declared.error.DecodeError.TheVariants.{InvalidOpcode, Outside}
 use Rattle.x86_address.specs.Reading.{Reading, ◌>>=◌, take_byte}
-use Rattle.vex_decode.specs.Fields.{PrefixForm, C4, C5, Fields}
+use Rattle.vex_decode.specs.Fields.{PrefixForm, C4, C5}
 use Rattle.vex_decode.specs.Walk.{map_of, fields_by_map, read_fields, form_of, read_prefix}
 use Rattle.vex_decode.proofs.Form.{step_then}
 use Rattle.vex_decode.proofs.Prefix.{after_form}

@@ -1,12 +1,12 @@
 -- The search for the shortest standard bytes, row by row and entry by entry.
-use Rattle.std.specs.Prelude.{◌≡◌, refl, ◌⊎◌, ℕ, ◌+◌, ◌<◌, ◌≤◌, Bool, true, false, not, ◌&&◌, ◌||◌, nat_le, List, [], ◌∷◌, ◌++◌, map, filter, flat_map, filter_map, length, take, slice_get, Option, Some, None, cond, if◌then◌else◌}
+use Rattle.std.specs.Prelude.{◌≡◌, refl, ℕ, ◌+◌, ◌<◌, Bool, true, false, not, ◌||◌, nat_le, List, [], ◌∷◌, ◌++◌, map, filter, flat_map, filter_map, length, take, slice_get, Option, Some, None, cond, if◌then◌else◌}
 use Rattle.std.specs.List.{list_all, list_any, cons_option}
-use Rattle.std.proofs.Common.{zero, suc, get_or, inl, inr, arith, ap, ap₂, sym, ◌∙◌, subst}
+use Rattle.std.proofs.Common.{zero, suc, get_or, inl, inr, arith, ap, ap₂, sym, ◌∙◌}
 use Rattle.std.proofs.lemmas.Bool.Decides.{nat_tests}
 use Rattle.std.proofs.lemmas.Grind.{flat_map-append}
 use Rattle.std.proofs.lemmas.List.{take_more}
 use Rattle.std.proofs.lemmas.Option.{get_or_from_slice_get, same_Some}
-use Rattle.x86_operand.specs.Kind.{Kind, WithoutModRM, InRegister, InMemory}
+use Rattle.x86_operand.specs.Kind.{WithoutModRM, InRegister, InMemory}
 use Rattle.x86_operand.specs.Meaning.{Meaning}
 use Rattle.vex_rows.specs.declared.entry.Entry.{Entry}
 use Rattle.vex_rows.specs.declared.steps.Check.{Check}
@@ -15,7 +15,7 @@ use Rattle.vex_rows.specs.Steps.{steps}
 use Rattle.vex_rows.specs.Table.{table}
 use Rattle.vex_rows.specs.Row.{Row, Among, rows, exists, choices, choices_of_w, choices_of_l, row_at, has_groups, permits_choice, is_register}
 use Rattle.vex_rows.specs.Tests.{is_register_check}
-use Rattle.vex_rows.proofs.Lists.{both-parts, from-list_all, among-append_left, among-append_right}
+use Rattle.vex_rows.proofs.Lists.{both-parts, from-list_all}
 use Rattle.vex_rows.proofs.Rows.{checks_of}
 use Rattle.vex_forms.specs.Layout.{row_for}
 use Rattle.vex_decode.proofs.Form.{addressed_form}

@@ -1,15 +1,14 @@
 -- The standard bytes of a meaning by a row spell it, and are there and no longer wherever anything spells it by the row.
-use Rattle.std.specs.Prelude.{◌≡◌, refl, ◌⊎◌, ℕ, ◌+◌, ◌*◌, ◌/◌, ◌%◌, ◌<◌, ◌≤◌, Bool, true, false, not, ◌&&◌, ◌||◌, nat_le, nat_lt, ◌==◌, List, [], ◌∷◌, ◌++◌, map, length, Option, Some, None, if◌then◌else◌}
-use Rattle.std.specs.List.{list_any, list_all}
-use Rattle.std.proofs.Common.{arith, ap, ap₂, sym, ◌∙◌, inl, inr, subst, subst₂, length-append}
-use Rattle.std.proofs.lemmas.Bool.{eqb-true, eq-eqb}
+use Rattle.std.specs.Prelude.{◌≡◌, refl, ◌⊎◌, ℕ, ◌+◌, ◌%◌, ◌<◌, ◌≤◌, Bool, true, false, not, ◌&&◌, ◌||◌, nat_le, nat_lt, ◌==◌, List, [], ◌∷◌, ◌++◌, map, length, Option, Some, None, if◌then◌else◌}
+use Rattle.std.specs.List.{list_any}
+use Rattle.std.proofs.Common.{arith, ap, sym, ◌∙◌, inl, inr, subst, subst₂, length-append}
 use Rattle.std.proofs.lemmas.Bool.Decides.{nat_tests}
 use Rattle.x86_opcode.specs.declared.Opcode.{Opcode}
 use Rattle.x86_operand.specs.Kind.{Kind, WithoutModRM, InRegister, InMemory}
 use Rattle.x86_operand.specs.Meaning.{OperandMeaning, register, signed, unsigned, memory, nothing, Meaning}
 use Rattle.x86_operand.specs.Same.{same_meaning}
 use Rattle.x86_operand.specs.Same.Laws.{same_meaning_equal, same_meaning_refl}
-use Rattle.x86_address.specs.Place.{Place, NoPlace, Direct, Based, RipBased, Scaled, Baseless, Target, NoTarget, Number, At, kind_of, kind_of_target, IsPlace, target, place_bytes}
+use Rattle.x86_address.specs.Place.{Place, NoPlace, Direct, Based, RipBased, Scaled, Baseless, kind_of, kind_of_target, target, place_bytes}
 use Rattle.x86_address.specs.Shortest.{shortest, x_of, b_of}
 use Rattle.x86_address.proofs.Shortest.{is_place-shortest, kind_of-shortest, kind_of_target-target, shortest-least, x_of-target, b_of-target}
 use Rattle.vex_rows.specs.declared.key.Map.{Map}
@@ -17,20 +16,20 @@ use Rattle.vex_rows.specs.declared.key.Map.TheVariants.{Map0F, Map0F38, Map0F3A}
 use Rattle.vex_rows.specs.Rules.{map_number}
 use Rattle.vex_rows.specs.Steps.{steps}
 use Rattle.vex_rows.specs.Groups.{groups}
-use Rattle.vex_rows.specs.Row.{Row, IsRow, opcode_of, Among, kinds_of, group_choices, has_groups, is_group_check, has_imm}
+use Rattle.vex_rows.specs.Row.{Row, IsRow, opcode_of, Among, group_choices, has_groups, is_group_check, has_imm}
 use Rattle.vex_rows.proofs.Lists.{both-parts, parts-both, from-list_all, from-map}
 use Rattle.vex_rows.proofs.Rows.{Chosen, chosen-row}
 use Rattle.vex_rows.proofs.Forms.{small_groups}
 use Rattle.vex_forms.specs.declared.slot.VvvvRule.{VvvvRule}
 use Rattle.vex_forms.specs.declared.slot.VvvvRule.TheVariants.{Named, Zero, Free}
-use Rattle.vex_forms.specs.Slots.{slots, slots_of, index_bank, size_of, v_rule, names_g, names_v, names_e, names_imm}
+use Rattle.vex_forms.specs.Slots.{slots, index_bank, size_of, v_rule, names_g, names_v, names_e, names_imm}
 use Rattle.vex_forms.specs.Gives.{gives, slot_operand}
 use Rattle.vex_forms.specs.Tests.{immediates}
-use Rattle.vex_forms.proofs.Sound.{sound_row, named, v_rule-zero}
-use Rattle.vex_decode.specs.Fields.{Fields, PrefixForm, C4, C5, IsPrefix, FitsTwoBytes, CanSay, prefix_bytes}
+use Rattle.vex_forms.proofs.Sound.{sound_row, v_rule-zero}
+use Rattle.vex_decode.specs.Fields.{Fields, PrefixForm, C4, C5, FitsTwoBytes, CanSay, prefix_bytes}
 use Rattle.vex_decode.specs.Spelling.{Syntax, imm_bytes, bytes_of, meant, FitsRule, FitsGroup, FitsReg, FitsImm, IsSyntax, SpellsBy}
 use Rattle.vex_decode.proofs.Form.{alone_form}
-use Rattle.vex_encode.specs.Standard.{operand_at, number_of, imm_of, target_of, fits_two_bytes, shortest_form, fields_for, reg_for, assembled, candidate, standard}
+use Rattle.vex_encode.specs.Standard.{operand_at, number_of, imm_of, target_of, fits_two_bytes, shortest_form, fields_for, reg_for, candidate, standard}
 use Rattle.vex_encode.proofs.Candidate.{first_or_none, no_operand, e_given, map_same, slot_again}
 
 -- a form of prefix is chosen only where it can say the fields

@@ -1,7 +1,6 @@
 use Rattle.std.specs.Prelude.{◌≡◌, ◌-◌, ℕ, List, length, Result, Ok, Err}
 use Rattle.x86_operand.specs.declared.error.DecodeError.{DecodeError}
 use Rattle.x86_operand.specs.Meaning.{Decoded}
-use Rattle.x86_address.specs.Bytes.{bit}
 use Rattle.x86_address.specs.Place.{target}
 use Rattle.x86_address.specs.Reading.{Reading}
 use Rattle.vex_rows.specs.Row.{Row}

@@ -1,5 +1,5 @@
 -- The result line of what a decode answers.
-use Rattle.std.specs.Prelude.{◌≡◌, refl, ℕ, ◌≤◌, Bool, List, [], ◌++◌, length, take, drop, Option, Some, None, Ok, Err, unwrap_or}
+use Rattle.std.specs.Prelude.{◌≡◌, ℕ, ◌≤◌, Bool, List, [], length, take, drop, Some, None, Ok, unwrap_or}
 use Rattle.std.proofs.Common.{arith, ap, sym, ◌∙◌, take-append-drop}
 use Rattle.std.proofs.lemmas.List.{length-drop}
 use Rattle.x86_operand.specs.declared.error.DecodeError.{DecodeError}

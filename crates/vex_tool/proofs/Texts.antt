@@ -1,6 +1,6 @@
 -- The texts of operands, one after another, and how long an opcode's name is.
 use Rattle.std.specs.Prelude.{◌≡◌, refl, ℕ, ◌+◌, ◌<◌, ◌≤◌, nat_le, true, List, [], ◌∷◌, ◌++◌, length, take, codes, slice_index_or}
-use Rattle.std.proofs.Common.{arith, ap, sym, ◌∙◌, append_assoc, get_or}
+use Rattle.std.proofs.Common.{arith, ap, sym, ◌∙◌, append_assoc}
 use Rattle.std.proofs.lemmas.List.{take_more}
 use Rattle.std.proofs.lemmas.Bool.Decides.{nat_tests}
 use Rattle.x86_opcode.specs.declared.Opcode.{Opcode}

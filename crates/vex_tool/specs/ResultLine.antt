@@ -3,7 +3,6 @@ use Rattle.std.specs.Prelude.{ℕ, Bool, List, [], ◌∷◌, ◌++◌, Option, 
 use Rattle.std.specs.Fmt.{signed_decimal}
 use Rattle.hex.specs.Hex.{encode_lower}
 use Rattle.x86_opcode.specs.Name.{opcode_name}
-use Rattle.x86_operand.specs.declared.address.Address.{Address}
 use Rattle.x86_operand.specs.declared.address.Index.{Index}
 use Rattle.x86_operand.specs.declared.error.DecodeError.{DecodeError}
 use Rattle.x86_operand.specs.declared.register.RegisterBank.{RegisterBank}

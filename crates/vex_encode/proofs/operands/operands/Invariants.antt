@@ -1,5 +1,5 @@
 -- The operands so far are those of the slots so far.
-use Rattle.std.proofs.Common.{◌≡◌, map, length, take}
+use Rattle.std.proofs.Common.{◌≡◌, map, take}
 use Rattle.x86_address.specs.Bytes.{bit}
 use Rattle.x86_operand.specs.declared.register.RegisterBank.{RegisterBank}
 use Rattle.x86_operand.specs.Meaning.{operand_meaning}

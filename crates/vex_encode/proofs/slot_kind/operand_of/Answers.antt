@@ -1,6 +1,6 @@
 -- The search goes on past a slot of another kind, and ends at the first of the kind or past the last slot.
-use Rattle.std.proofs.Common.{arith, sym, ◌∙◌}
-use Rattle.vex_encode.proofs.FirstSlot.{found_at, later_at, none_at}
+use Rattle.std.proofs.Common.{sym, ◌∙◌}
+use Rattle.vex_encode.proofs.FirstSlot.{later_at}
 use Rattle.vex_encode.proofs.slot_kind.operand_of.Goals as goal
 
 pub loop-i-preserved : goal.loop-i-preserved

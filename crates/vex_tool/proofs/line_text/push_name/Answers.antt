@@ -1,4 +1,4 @@
-use Rattle.std.proofs.Common.{arith, ap, ◌∙◌, ◌≡◌, ◌≤◌, length, length-append}
+use Rattle.std.proofs.Common.{arith, ap, ◌∙◌, ◌≡◌, length, length-append}
 use Rattle.x86_opcode.specs.Name.{opcode_name}
 use Rattle.vex_tool.proofs.Texts.{short_name}
 use Rattle.vex_tool.proofs.line_text.push_name.Goals as goal

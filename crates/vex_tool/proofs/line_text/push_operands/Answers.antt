@@ -1,4 +1,4 @@
-use Rattle.std.proofs.Common.{arith, ap, sym, ◌∙◌, append_assoc, length-append, ◌≡◌, ◌≤◌, ◌<◌, ◌+◌, ◌*◌, ◌++◌, length}
+use Rattle.std.proofs.Common.{arith, ap, sym, ◌∙◌, append_assoc, length-append, ◌<◌, ◌++◌, length}
 use Rattle.std.specs.Prelude.{take, codes}
 use Rattle.x86_operand.specs.Meaning.{operand_meaning}
 use Rattle.x86_operand.specs.Instruction.{operand_at}

@@ -1,4 +1,4 @@
-use Rattle.std.proofs.Common.{◌≡◌, ◌≤◌, ◌+◌, ◌*◌, ◌++◌, length}
+use Rattle.std.proofs.Common.{◌≡◌, ◌≤◌, ◌+◌, ◌*◌, ◌++◌}
 use Rattle.std.specs.Prelude.{take}
 use Rattle.arrayvec.specs.ArrayVec.{array_vec_len}
 use Rattle.vex_tool.specs.ResultLine.{operands_text}

@@ -1,4 +1,4 @@
-use Rattle.std.proofs.Common.{ap, sym, refl, ◌∙◌, ◌≡◌, length, ◌++◌}
+use Rattle.std.proofs.Common.{ap, sym, refl, ◌∙◌, ◌++◌}
 use Rattle.vex_tool.proofs.Results.{line-recoded, line-refused}
 use Rattle.vex_tool.proofs.result_line.result_text.Goals as goal
 
