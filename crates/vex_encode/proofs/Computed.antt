@@ -1,3 +1,4 @@
+-- Canonical bytes, first failing steps and shortest places, computed at examples.
 use Rattle.std.specs.Prelude.{◌≡◌, refl, [], ◌∷◌, Some, None, false, pos}
 use Rattle.x86_opcode.specs.declared.Opcode.TheVariants.{Float}
 use Rattle.x86_opcode.specs.declared.FloatOpcode.TheVariants.{VMOVAPS}
@@ -21,6 +22,7 @@ use Rattle.vex_decode.specs.Blocked.{fails}
 use Rattle.vex_encode.specs.Standard.{standard, candidate}
 use Rattle.vex_encode.specs.Canon.{canon}
 
+-- VMOVAPS x0, x8
 abbrev moves : Meaning
 moves = record { evex = false; opcode = Float VMOVAPS; operands = register (record { bank = X; num = 0 }) ∷ register (record { bank = X; num = 8 }) ∷ []; size = None }
 
@@ -28,42 +30,42 @@ canon_moves : canon moves ≡ Some (0xC5 ∷ 0x78 ∷ 0x29 ∷ 0xC0 ∷ [])
 unfolding canon rows choices exists has_groups table steps groups standard candidate shortest slots index_bank size_of v_rule gives opcode_of has_imm same_meaning same_operands same_operand same_register same_bank same_opcode opcode_number
 canon_moves = refl
 
-fails_one : fails [] ≡ Some (ExhaustedInput, 0)
+empty : fails [] ≡ Some (ExhaustedInput, 0)
 unfolding walk
-fails_one = refl
+empty = refl
 
-fails_two : fails (0x33 ∷ 0xC0 ∷ []) ≡ Some (Outside, 1)
+first_byte : fails (0x33 ∷ 0xC0 ∷ []) ≡ Some (Outside, 1)
 unfolding walk
-fails_two = refl
+first_byte = refl
 
-fails_three : fails (0xC4 ∷ 0 ∷ []) ≡ Some (ExhaustedInput, 2)
+cut_prefix : fails (0xC4 ∷ 0 ∷ []) ≡ Some (ExhaustedInput, 2)
 unfolding walk
-fails_three = refl
+cut_prefix = refl
 
-fails_four : fails (0xC4 ∷ 0xE0 ∷ 0x78 ∷ 0x58 ∷ 0xC0 ∷ []) ≡ Some (InvalidOpcode, 3)
+no_map : fails (0xC4 ∷ 0xE0 ∷ 0x78 ∷ 0x58 ∷ 0xC0 ∷ []) ≡ Some (InvalidOpcode, 3)
 unfolding walk
-fails_four = refl
+no_map = refl
 
-fails_five : fails (0xC4 ∷ 0xE3 ∷ 0x78 ∷ 0x0F ∷ 0xC0 ∷ 0 ∷ []) ≡ Some (InvalidOpcode, 4)
+no_entry : fails (0xC4 ∷ 0xE3 ∷ 0x78 ∷ 0x0F ∷ 0xC0 ∷ 0 ∷ []) ≡ Some (InvalidOpcode, 4)
 unfolding walk entry_of has_key table
-fails_five = refl
+no_entry = refl
 
-fails_six : fails (0xC5 ∷ 0xF8 ∷ 0x28 ∷ 0 ∷ []) ≡ Some (InvalidOperand, 4)
+in_memory : fails (0xC5 ∷ 0xF8 ∷ 0x28 ∷ 0 ∷ []) ≡ Some (InvalidOperand, 4)
 unfolding walk walk_form entry_of has_key table steps groups
-fails_six = refl
+in_memory = refl
 
-fails_seven : fails (0xC5 ∷ 0xF0 ∷ 0x28 ∷ []) ≡ Some (InvalidOperand, 3)
+vvvv : fails (0xC5 ∷ 0xF0 ∷ 0x28 ∷ []) ≡ Some (InvalidOperand, 3)
 unfolding walk walk_form entry_of has_key table steps groups
-fails_seven = refl
+vvvv = refl
 
 begins : fails (0xC4 ∷ 0xC1 ∷ 0x78 ∷ 0x28 ∷ 0xC0 ∷ 1 ∷ []) ≡ None
 unfolding walk walk_form entry_of has_key table steps groups
 begins = refl
 
-place_seven : shortest (At (record { base = Numbered 0; index = None; disp = pos 0 })) ≡ Based 0 Absent
+place_of_a_base : shortest (At (record { base = Numbered 0; index = None; disp = pos 0 })) ≡ Based 0 Absent
 unfolding shortest
-place_seven = refl
+place_of_a_base = refl
 
-place_eight : shortest (At (record { base = Numbered 5; index = None; disp = pos 0 })) ≡ Based 5 (Short 0)
+place_of_base_five : shortest (At (record { base = Numbered 5; index = None; disp = pos 0 })) ≡ Based 5 (Short 0)
 unfolding shortest
-place_eight = refl
+place_of_base_five = refl
