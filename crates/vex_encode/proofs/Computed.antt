@@ -1,7 +1,7 @@
 -- Canonical bytes, first failing steps and shortest places, computed at examples.
 use Rattle.std.specs.Prelude.{◌≡◌, refl, [], ◌∷◌, Some, None, false, pos}
 use Rattle.x86_opcode.specs.declared.Opcode.TheVariants.{Float}
-use Rattle.x86_opcode.specs.declared.FloatOpcode.TheVariants.{VMOVAPS}
+use Rattle.x86_opcode.specs.declared.FloatOpcode.TheVariants.{VMOVAPS, VADDPS}
 use Rattle.x86_operand.specs.declared.error.DecodeError.TheVariants.{ExhaustedInput, InvalidOpcode, InvalidOperand, Outside}
 use Rattle.x86_operand.specs.declared.register.RegisterBank.TheVariants.{X}
 use Rattle.x86_operand.specs.Meaning.{register, Meaning}
@@ -20,7 +20,7 @@ use Rattle.vex_forms.specs.Gives.{gives}
 use Rattle.vex_decode.specs.Walk.{walk, walk_form, entry_of}
 use Rattle.vex_decode.specs.Blocked.{fails}
 use Rattle.vex_encode.specs.Standard.{standard, candidate}
-use Rattle.vex_encode.specs.Canon.{canon}
+use Rattle.vex_encode.specs.Canon.{all_standard, canon}
 
 -- VMOVAPS x0, x8
 abbrev moves : Meaning
@@ -29,6 +29,25 @@ moves = record { evex = false; opcode = Float VMOVAPS; operands = register (reco
 canon_moves : canon moves ≡ Some (0xC5 ∷ 0x78 ∷ 0x29 ∷ 0xC0 ∷ [])
 unfolding canon rows choices exists has_groups table steps groups standard candidate shortest slots index_bank size_of v_rule gives opcode_of has_imm same_meaning same_operands same_operand same_register same_bank same_opcode opcode_number
 canon_moves = refl
+
+-- two entries give it, each at either W; the second has the operands the other way round, and needs no third byte of
+-- prefix at W 0
+rows_of_moves : all_standard moves rows ≡ (0xC4 ∷ 0xC1 ∷ 0x78 ∷ 0x28 ∷ 0xC0 ∷ []) ∷ (0xC4 ∷ 0xC1 ∷ 0xF8 ∷ 0x28 ∷ 0xC0 ∷ []) ∷ (0xC5 ∷ 0x78 ∷ 0x29 ∷ 0xC0 ∷ []) ∷ (0xC4 ∷ 0x61 ∷ 0xF8 ∷ 0x29 ∷ 0xC0 ∷ []) ∷ []
+unfolding rows choices exists has_groups table steps groups standard candidate shortest slots index_bank size_of v_rule gives opcode_of has_imm same_meaning same_operands same_operand same_register same_bank same_opcode opcode_number
+rows_of_moves = refl
+
+-- VADDPS x0, x1, x2
+abbrev adds : Meaning
+adds = record { evex = false; opcode = Float VADDPS; operands = register (record { bank = X; num = 0 }) ∷ register (record { bank = X; num = 1 }) ∷ register (record { bank = X; num = 2 }) ∷ []; size = None }
+
+-- one entry gives it, at either W
+rows_of_adds : all_standard adds rows ≡ (0xC5 ∷ 0xF0 ∷ 0x58 ∷ 0xC2 ∷ []) ∷ (0xC4 ∷ 0xE1 ∷ 0xF0 ∷ 0x58 ∷ 0xC2 ∷ []) ∷ []
+unfolding rows choices exists has_groups table steps groups standard candidate shortest slots index_bank size_of v_rule gives opcode_of has_imm same_meaning same_operands same_operand same_register same_bank same_opcode opcode_number
+rows_of_adds = refl
+
+canon_adds : canon adds ≡ Some (0xC5 ∷ 0xF0 ∷ 0x58 ∷ 0xC2 ∷ [])
+unfolding canon rows choices exists has_groups table steps groups standard candidate shortest slots index_bank size_of v_rule gives opcode_of has_imm same_meaning same_operands same_operand same_register same_bank same_opcode opcode_number
+canon_adds = refl
 
 empty : fails [] ≡ Some (ExhaustedInput, 0)
 unfolding walk

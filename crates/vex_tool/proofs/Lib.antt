@@ -6,3 +6,4 @@ pub mod RunLemmas
 pub mod RunClauses
 pub mod Texts
 pub mod Results
+mod Computed
