@@ -1,8 +1,9 @@
 -- Where bytes are blocked, computed at examples: VMOVAPS needs the bit of avx, which is asked for last.
-use Rattle.std.specs.Prelude.{◌≡◌, refl, Bool, true, false, List, [], ◌∷◌, Some, None, replicate, slice_set}
+use Rattle.std.specs.Prelude.{◌≡◌, refl, Bool, List, [], ◌∷◌, Some, None}
 use Rattle.x86_operand.specs.declared.error.DecodeError.TheVariants.{ExhaustedInput, InvalidOpcode, InvalidOperand, Outside}
 use Rattle.x86_opcode.specs.Condition.{opcode_condition}
-use Rattle.x86_permit.specs.Settings.{avx}
+use Rattle.x86_settings.specs.Bits.{no_bits, with_set}
+use Rattle.x86_settings.specs.Settings.{avx}
 use Rattle.x86_permit.specs.Permission.{permits}
 use Rattle.vex_rows.specs.Groups.{groups}
 use Rattle.vex_rows.specs.Rules.{has_key}
@@ -12,11 +13,8 @@ use Rattle.vex_rows.specs.Row.{has_groups, opcode_of}
 use Rattle.vex_decode.specs.Walk.{entry_of, walk_form, walk}
 use Rattle.vex_decode.specs.Blocked.{blocked}
 
-abbrev no_bits : List Bool
-no_bits = replicate 128 false
-
 abbrev avx_bit : List Bool
-avx_bit = slice_set no_bits avx true
+avx_bit = with_set no_bits avx
 
 permitted : blocked avx_bit (0xC4 ∷ 0xC1 ∷ 0x78 ∷ 0x28 ∷ 0xC0 ∷ []) ≡ None
 unfolding walk walk_form entry_of has_key table steps groups has_groups opcode_of permits opcode_condition

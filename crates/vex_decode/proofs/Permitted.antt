@@ -4,7 +4,8 @@ use Rattle.std.proofs.Common.{ap, ◌∙◌, subst}
 use Rattle.x86_opcode.specs.declared.Opcode.{Opcode}
 use Rattle.x86_opcode.specs.Vex.{is_vex}
 use Rattle.x86_opcode.proofs.Vex.{vex_part, is_vex-vex_part}
-use Rattle.x86_permit.specs.Settings.{is_set, all_set}
+use Rattle.x86_settings.specs.Bits.{is_set}
+use Rattle.x86_settings.specs.Sets.{all_set}
 use Rattle.x86_permit.specs.Permission.{permits}
 use Rattle.x86_permit.specs.LeastSettings.{least}
 use Rattle.x86_permit.proofs.Laws.{least_settings}

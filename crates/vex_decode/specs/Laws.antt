@@ -3,7 +3,7 @@ use Rattle.std.specs.Prelude.{◌≡◌, ◌≢◌, ◌↔◌, ℕ, ◌≤◌, B
 use Rattle.x86_operand.specs.declared.error.DecodeError.TheVariants.{ExhaustedInput}
 use Rattle.x86_operand.specs.Meaning.{Meaning}
 use Rattle.x86_permit.specs.Permission.{permits}
-use Rattle.x86_permit.specs.Settings.{is_set}
+use Rattle.x86_settings.specs.Bits.{is_set}
 use Rattle.x86_address.specs.Bytes.{IsBytes, Begins}
 use Rattle.vex_decode.specs.Spelling.{Spells}
 use Rattle.vex_decode.specs.Blocked.{blocked}

@@ -1,5 +1,5 @@
 -- The laws of permission.
-use Rattle.std.proofs.Common.{◌≡◌, true, false, replicate, refl, sym, ap, ◌∙◌}
+use Rattle.std.proofs.Common.{◌≡◌, true, false, refl, sym, ap, ◌∙◌}
 use Rattle.std.proofs.lemmas.Bool.{false_from_ne_true}
 use Rattle.x86_opcode.specs.declared.Opcode.{Opcode}
 use Rattle.x86_opcode.specs.declared.Opcode.TheVariants.{Legacy}
@@ -11,6 +11,7 @@ use Rattle.x86_opcode.proofs.Vex.{is_vex-vex_part}
 use Rattle.x86_opcode.specs.declared.condition.Condition.{Condition}
 use Rattle.x86_opcode.specs.declared.condition.Condition.TheVariants.{ThreeDNow}
 use Rattle.x86_opcode.specs.Condition.{opcode_condition}
+use Rattle.x86_settings.specs.Bits.{all_bits}
 use Rattle.x86_permit.specs.Permission.{condition_holds, permits, revised}
 use Rattle.x86_permit.specs.LeastSettings.{least}
 use Rattle.x86_permit.specs.Laws.{LeastSettingsPermit, MoreSettingsPermitMore, AllSettingsPermitAll, VexOpcodesStay}
@@ -36,7 +37,7 @@ unfolding revised
 vex_opcodes s opcode vex = rw (vex-not-tzcnt opcode vex)
 
 -- where all bits are set, every condition holds
-all-condition_holds : (c : Condition) → condition_holds (replicate 128 true) c ≡ true
+all-condition_holds : (c : Condition) → condition_holds all_bits c ≡ true
 all-condition_holds ThreeDNow = refl
 all-condition_holds _ = refl
 

@@ -1,6 +1,6 @@
 -- What conditions read of the settings.
-use Rattle.std.proofs.Common.{◌≡◌, ℕ, Bool, true, false, not, ◌&&◌, ◌||◌, List, [], ◌∷◌, ◌==◌, refl, ap}
-use Rattle.std.specs.List.{list_all, list_any}
+use Rattle.std.proofs.Common.{◌≡◌, ℕ, Bool, true, false, not, ◌&&◌, ◌||◌, List, [], ◌∷◌, refl, ap}
+use Rattle.std.specs.List.{list_all}
 use Rattle.std.proofs.lemmas.Bool.{and_parts}
 use Rattle.x86_opcode.specs.declared.Opcode.{Opcode}
 use Rattle.x86_opcode.specs.declared.Opcode.TheVariants.{Marked}
@@ -9,7 +9,8 @@ use Rattle.x86_opcode.specs.declared.condition.Condition.{Condition}
 use Rattle.x86_opcode.specs.declared.condition.Condition.TheVariants as on
 use Rattle.x86_opcode.specs.Condition.{opcode_condition}
 use Rattle.x86_opcode.specs.Mark.{marked_bit}
-use Rattle.x86_permit.specs.Settings.{all_set, avx512}
+use Rattle.x86_settings.specs.Sets.{all_set, is_among}
+use Rattle.x86_settings.specs.Composites.{avx512}
 use Rattle.x86_permit.specs.Permission.{condition_holds, permits, revised, own_bit_set, marked_baseline}
 use Rattle.x86_permit.specs.Laws.{read_bits, AgreeOnReadBits, OtherBitsChangeNothing}
 
@@ -55,7 +56,7 @@ condition_holds-same s t same on.Always = refl
 
 -- whether conditions read all these bits
 abbrev all_read : List ℕ → Bool
-all_read places = list_all (λ i. list_any (λ bit. bit == i) read_bits) places
+all_read places = list_all (is_among read_bits) places
 
 all_set-same : (s t : List Bool) → AgreeOnReadBits s t → (places : List ℕ) → all_read places ≡ true → all_set s places ≡ all_set t places
 all_set-same s t same [] h = refl

@@ -12,7 +12,8 @@ use Rattle.x86_opcode.specs.declared.condition.Condition.TheVariants as on
 use Rattle.x86_opcode.specs.Condition.{opcode_condition}
 use Rattle.x86_opcode.specs.Vex.{is_vex}
 use Rattle.x86_opcode.proofs.Vex.{is_vex-vex_part}
-use Rattle.x86_permit.specs.Settings.{is_set, all_set}
+use Rattle.x86_settings.specs.Bits.{is_set}
+use Rattle.x86_settings.specs.Sets.{all_set}
 use Rattle.x86_permit.specs.Permission.{condition_holds, permits}
 use Rattle.x86_permit.specs.LeastSettings.{least_of_condition, least}
 

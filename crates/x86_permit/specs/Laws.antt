@@ -1,8 +1,9 @@
-use Rattle.std.specs.Prelude.{◌≡◌, ◌↔◌, ℕ, Bool, true, false, List, [], ◌∷◌, IsTrue, slice_set, replicate, ◌==◌}
-use Rattle.std.specs.List.{list_any}
+use Rattle.std.specs.Prelude.{◌≡◌, ◌↔◌, ℕ, Bool, false, List, [], ◌∷◌, IsTrue}
 use Rattle.x86_opcode.specs.declared.Opcode.{Opcode}
 use Rattle.x86_opcode.specs.Vex.{is_vex}
-use Rattle.x86_permit.specs.Settings.{is_set, all_set}
+use Rattle.x86_settings.specs.Bits.{is_set, with_set, all_bits}
+use Rattle.x86_settings.specs.Sets.{all_set, is_among}
+use Rattle.x86_settings.specs.Settings.{_3dnow, abm, adx, aesni, amd_quirks, avx, avx512_4fmaps, avx512_4vnniw, avx512_bitalg, avx512_bw, avx512_cd, avx512_dq, avx512_er, avx512_f, avx512_fma, avx512_pf, avx512_vbmi, avx512_vbmi2, avx512_vl, avx512_vpopcntdq, bmi1, bmi2, f16c, intel_quirks, lahfsahf, lzcnt, movbe, pclmulqdq, popcnt, rdrand, rdseed, sgx, sha, skinit, sse3, sse4_1, sse4_2, sse4a, ssse3, svm, tsx, vmx, avx512_vnni, keylocker, hreset}
 use Rattle.x86_permit.specs.Permission.{permits, revised}
 use Rattle.x86_permit.specs.LeastSettings.{least}
 
@@ -15,7 +16,7 @@ LeastSettingsPermit =
 abbrev pub MoreSettingsPermitMore : Type 0
 MoreSettingsPermitMore =
     (s : List Bool) (i : ℕ) (opcode : Opcode) → IsTrue (is_vex opcode)
-    → IsTrue (permits s false opcode) → IsTrue (permits (slice_set s i true) false opcode)
+    → IsTrue (permits s false opcode) → IsTrue (permits (with_set s i) false opcode)
 
 -- an instruction with a VEX opcode keeps it
 abbrev pub VexOpcodesStay : Type 0
@@ -23,17 +24,20 @@ VexOpcodesStay = (s : List Bool) (opcode : Opcode) → IsTrue (is_vex opcode) �
 
 -- where all bits are set, every instruction is permitted
 abbrev pub AllSettingsPermitAll : Type 0
-AllSettingsPermitAll = (mark : Bool) (opcode : Opcode) → IsTrue (permits (replicate 128 true) mark opcode)
+AllSettingsPermitAll = (mark : Bool) (opcode : Opcode) → IsTrue (permits all_bits mark opcode)
 
 -- the bits that conditions read
 abbrev pub read_bits : List ℕ
 read_bits =
-    1 ∷ 3 ∷ 4 ∷ 5 ∷ 6 ∷ 7 ∷ 10 ∷ 11 ∷ 12 ∷ 13 ∷ 14 ∷ 15 ∷ 16 ∷ 17 ∷ 18 ∷ 19 ∷ 20 ∷ 21 ∷ 22 ∷ 23 ∷ 25 ∷ 26 ∷ 32 ∷ 36 ∷ 38 ∷ 39
-    ∷ 41 ∷ 43 ∷ 45 ∷ 48 ∷ 49 ∷ 51 ∷ 52 ∷ 53 ∷ 54 ∷ 55 ∷ 56 ∷ 57 ∷ 58 ∷ 59 ∷ 62 ∷ 64 ∷ 109 ∷ 111 ∷ 112 ∷ []
+    _3dnow ∷ abm ∷ adx ∷ aesni ∷ amd_quirks ∷ avx ∷ avx512_4fmaps ∷ avx512_4vnniw ∷ avx512_bitalg ∷ avx512_bw ∷
+    avx512_cd ∷ avx512_dq ∷ avx512_er ∷ avx512_f ∷ avx512_fma ∷ avx512_pf ∷ avx512_vbmi ∷ avx512_vbmi2 ∷
+    avx512_vl ∷ avx512_vpopcntdq ∷ bmi1 ∷ bmi2 ∷ f16c ∷ intel_quirks ∷ lahfsahf ∷ lzcnt ∷ movbe ∷ pclmulqdq ∷
+    popcnt ∷ rdrand ∷ rdseed ∷ sgx ∷ sha ∷ skinit ∷ sse3 ∷ sse4_1 ∷ sse4_2 ∷ sse4a ∷ ssse3 ∷ svm ∷ tsx ∷ vmx ∷
+    avx512_vnni ∷ keylocker ∷ hreset ∷ []
 
 -- two settings agree on the bits that conditions read
 abbrev pub AgreeOnReadBits : List Bool → List Bool → Type 0
-AgreeOnReadBits s t = (i : ℕ) → IsTrue (list_any (λ bit. bit == i) read_bits) → is_set s i ≡ is_set t i
+AgreeOnReadBits s t = (i : ℕ) → IsTrue (is_among read_bits i) → is_set s i ≡ is_set t i
 
 -- every other bit changes neither what is permitted nor what a permitted instruction becomes
 pub record OtherBitsChangeNothing : Type 0 where

@@ -4,7 +4,7 @@ use Rattle.x86_opcode.specs.declared.condition.Condition.{Condition}
 use Rattle.x86_opcode.specs.declared.condition.Condition.TheVariants as on
 use Rattle.x86_opcode.specs.Condition.{opcode_condition}
 use Rattle.x86_opcode.specs.Vex.{is_vex}
-use Rattle.x86_permit.specs.Settings.{aesni, avx, bmi1, bmi2, f16c}
+use Rattle.x86_settings.specs.Settings.{aesni, avx, bmi1, bmi2, f16c}
 
 -- the bits that the condition of a VEX opcode needs
 abbrev pub least_of_condition : Condition → List ℕ

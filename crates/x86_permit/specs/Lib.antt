@@ -1,4 +1,3 @@
-pub mod Settings
 pub mod Permission
 pub mod LeastSettings
 pub mod Laws
