@@ -150,14 +150,19 @@ def declared(parts):
         yield f"use Rattle.x86_opcode.specs.declared.{part.enum}.TheVariants as {part.low}"
 
 
+def by_part(parts, what, kind, meaning, value):
+    """For each part the definition of `what`, with a line for each opcode."""
+    for part in parts:
+        yield from ["", f"-- {meaning}: {part.lower_doc}"]
+        yield f"abbrev pub {part.low}_{what} : {part.enum} → {kind}"
+        for place, name in enumerate(part.names()):
+            yield f"{part.low}_{what} {part.low}.{name} = {value(place, name)}"
+
+
 def numbers(parts):
     text = [f"-- The numbers of opcodes, {NOTE}."]
     text += ["use Rattle.std.specs.Prelude.{ℕ, ◌+◌, Bool, ◌==◌}", *declared(parts)]
-    for part in parts:
-        text += ["", f"-- the place of an opcode in its part: {part.lower_doc}"]
-        text += [f"abbrev pub {part.low}_number : {part.enum} → ℕ"]
-        for place, name in enumerate(part.names()):
-            text += [f"{part.low}_number {part.low}.{name} = {place}"]
+    text += by_part(parts, "number", "ℕ", "the place of an opcode in its part", lambda place, _: place)
     text += ["", "-- the number of an opcode: the parts stand one after another"]
     text += ["unfoldable pub opcode_number : Opcode → ℕ"]
     text += ["opcode_number Invalid = 0", "opcode_number BSF = 1"]
@@ -171,10 +176,7 @@ def numbers(parts):
 def names(parts):
     text = [f"-- The names of opcodes, {NOTE}."]
     text += ["use Rattle.std.specs.Prelude.{ℕ, List, codes}", *declared(parts)]
-    for part in parts:
-        text += ["", f"-- the name of an opcode: {part.lower_doc}"]
-        text += [f"abbrev pub {part.low}_name : {part.enum} → List ℕ"]
-        text += [f'{part.low}_name {part.low}.{name} = codes "{name}"' for name in part.names()]
+    text += by_part(parts, "name", "List ℕ", "the name of an opcode", lambda _, name: f'codes "{name}"')
     text += ["", "-- the name of an opcode, spelled as its constant"]
     text += ["unfoldable pub opcode_name : Opcode → List ℕ"]
     text += ['opcode_name Invalid = codes "Invalid"', 'opcode_name BSF = codes "BSF"']
@@ -216,6 +218,13 @@ def vex_opcodes(parts, without_vex):
     return text + ["is_vex o = list_any (same_opcode o) vex_opcodes"]
 
 
+def by_cases(part, lemma, statement, *head, pub=""):
+    """A lemma that computes at each opcode of a part."""
+    yield from ["", f"{pub}{lemma} : (o : {part.enum}) → {statement}", *head]
+    for name in part.names():
+        yield f"{lemma} {part.low}.{name} = refl"
+
+
 def listed(parts):
     text = [f"-- Each opcode stands in the list of all at its number, {NOTE}."]
     text += ["use Rattle.std.proofs.Common.{◌≡◌, ◌+◌, Some, slice_get, refl}", *declared(parts)]
@@ -224,8 +233,7 @@ def listed(parts):
     text += [f"use Rattle.x86_opcode.specs.Number.{{opcode_number, {numbers}}}"]
     for part in parts:
         found = f"slice_get ALL ({part.first} + {part.low}_number o) ≡ Some ({part.name} o)"
-        text += ["", f"{part.low}-listed : (o : {part.enum}) → {found}"]
-        text += [f"{part.low}-listed {part.low}.{name} = refl" for name in part.names()]
+        text += by_cases(part, f"{part.low}-listed", found)
     text += ["", "pub listed : (o : Opcode) → slice_get ALL (opcode_number o) ≡ Some o"]
     text += ["unfolding opcode_number", "listed Invalid = refl", "listed BSF = refl"]
     return text + [f"listed ({part.name} o) = {part.low}-listed o" for part in parts]
@@ -241,8 +249,7 @@ def tags(parts):
     text += [f"use Rattle.x86_opcode.specs.Number.{{{numbers}}}"]
     for part in parts:
         equal = f"tag_of the_{part.low}.the_type o ≡ {part.low}_number o"
-        text += ["", f"pub {part.low}_tag : (o : {part.enum}) → {equal}"]
-        text += [f"{part.low}_tag {part.low}.{name} = refl" for name in part.names()]
+        text += by_cases(part, f"{part.low}_tag", equal, pub="pub ")
     return text + ["", "pub ruleset tags = (" + ", ".join(f"{part.low}_tag" for part in parts) + ")"]
 
 
@@ -260,13 +267,11 @@ def vex(parts, without_vex):
                     text += [f"vex_part ({part.name} {part.low}.{name}) = false"]
             text += [f"vex_part ({part.name} _) = true"]
     text += ["vex_part _ = false"]
+    unfolding = "unfolding is_vex vex_opcodes same_opcode opcode_number"
     for part in parts:
         equal = f"is_vex ({part.name} o) ≡ vex_part ({part.name} o)"
-        text += ["", f"{part.low}-is_vex : (o : {part.enum}) → {equal}"]
-        text += ["unfolding is_vex vex_opcodes same_opcode opcode_number"]
-        text += [f"{part.low}-is_vex {part.low}.{name} = refl" for name in part.names()]
-    text += ["", "pub is_vex-vex_part : (o : Opcode) → is_vex o ≡ vex_part o"]
-    text += ["unfolding is_vex vex_opcodes same_opcode opcode_number"]
+        text += by_cases(part, f"{part.low}-is_vex", equal, unfolding)
+    text += ["", "pub is_vex-vex_part : (o : Opcode) → is_vex o ≡ vex_part o", unfolding]
     text += ["is_vex-vex_part Invalid = refl", "is_vex-vex_part BSF = refl"]
     return text + [f"is_vex-vex_part ({part.name} o) = {part.low}-is_vex o" for part in parts]
 
