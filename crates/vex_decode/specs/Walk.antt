@@ -75,7 +75,7 @@ read_fields C4 bytes = do
 
 -- the first byte says the form of the prefix
 abbrev pub form_of : ℕ → List ℕ → Reading PrefixForm
-form_of first rest = if first == 197 then Ok (C5, rest) else if first == 196 then Ok (C4, rest) else Err (Outside, rest)
+form_of first rest = if first == 0xC5 then Ok (C5, rest) else if first == 0xC4 then Ok (C4, rest) else Err (Outside, rest)
 
 -- the prefix: its first byte says its form
 abbrev pub read_prefix : List ℕ → Reading (PrefixForm × Fields)

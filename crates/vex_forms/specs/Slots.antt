@@ -120,7 +120,7 @@ slots_of G_ExyL_V_xyLmm row = G (gather_bank row.l row.entry.opcode) ∷ E (gath
 unfoldable pub slots : Row → List Slot
 slots row = slots_of row.entry.form row
 
--- the bank of the index of an address: a vector register where a form gathers
+-- the bank of the index of an address: a vector register where a form gathers (SDM volume 2, section 2.3.12)
 abbrev pub index_bank_of : Form → Row → RegisterBank
 index_bank_of G_ExyL_V_xyLmm row = gather_index_bank row.l row.entry.opcode
 index_bank_of _ row = Q
@@ -325,7 +325,8 @@ demands_v kind V0 = true
 demands_v kind VifMem = is_memory kind
 demands_v kind _ = false
 
--- what a row asks of vvvv: it names an operand, or it is 0 since a step demands it, or it plays no part
+-- what a row asks of vvvv: it names an operand, or it is 0 since a step demands it, or it plays no part (SDM volume 2,
+-- section 2.3.5.6)
 unfoldable pub v_rule : Row → VvvvRule
 v_rule row =
     if list_any names_v (slots row) then Named

@@ -21,7 +21,7 @@ pub struct RowLayout {
     pub vvvv: VvvvRule,
     /// The size of the memory operand, where there is one.
     pub mem_size: Option<MemoryAccessSize>,
-    /// The bank of the index of an address.
+    /// The bank of the index of an address: of vectors where the row gathers (Intel SDM volume 2, section 2.3.12).
     pub index_bank: RegisterBank,
     /// Whether there is a ModRM byte.
     pub has_modrm: bool,

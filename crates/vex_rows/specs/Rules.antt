@@ -14,7 +14,7 @@ map_number Map0F = 1
 map_number Map0F38 = 2
 map_number Map0F3A = 3
 
--- the number of an implied prefix in the field pp (SDM volume 2, section 2.3.5.5)
+-- the number of an implied prefix in the field pp (SDM volume 2, section 2.3.6.3)
 abbrev pub pp_number : Pp → ℕ
 pp_number Plain = 0
 pp_number Prefix66 = 1

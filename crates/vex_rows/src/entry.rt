@@ -7,7 +7,8 @@ use crate::form::Form;
 use crate::key::{Key, Map, Pp};
 use x86_operand::Opcode;
 
-/// What an entry asks of a bit of the prefix.
+/// What an entry asks of a bit of the prefix. The manual writes the rules as WIG, W0 and W1 for W, and as LIG, 128 and
+/// 256 for L (Intel SDM volume 2, section 3.1.1.2).
 #[derive(Clone, Copy, PartialEq, Eq, Debug)]
 pub enum Rule {
     /// The bit plays no part.
@@ -18,8 +19,9 @@ pub enum Rule {
     One,
 }
 
-/// One line of the opcode maps: where it stands, what it asks of W and L, the form of its operands, and the opcode
-/// that it announces. That is `Opcode::Invalid` where a group field or the kind of operand decides.
+/// One line of the opcode maps: where it stands, what it asks of W and L, the form of its operands, and the opcode that it
+/// announces (Intel SDM volume 2, section 3.1.1.2). That is `Opcode::Invalid` where a group field or the kind of operand
+/// decides.
 #[derive(Clone, Copy, PartialEq, Eq, Debug)]
 pub struct Entry {
     pub map: Map,

@@ -11,7 +11,7 @@ pub enum Map {
     Map0F3A,
 }
 
-/// The legacy prefix that the field pp stands for (Intel SDM volume 2, section 2.3.5.5).
+/// The legacy prefix that the field pp stands for (Intel SDM volume 2, section 2.3.6.3).
 #[derive(Clone, Copy, PartialEq, Eq, Debug)]
 pub enum Pp {
     /// No prefix.
@@ -24,7 +24,8 @@ pub enum Pp {
     PrefixF2,
 }
 
-/// What chooses an entry: opcode map, implied prefix, opcode byte, W and L.
+/// What chooses an entry: opcode map, implied prefix, opcode byte, W and L (Intel SDM volume 2, sections 2.3.5.5, 2.3.6
+/// and 2.3.7).
 #[derive(Clone, Copy, PartialEq, Eq, Debug)]
 pub struct Key {
     pub map: Map,
@@ -34,8 +35,8 @@ pub struct Key {
     pub l: bool,
 }
 
-/// The fields of a VEX prefix, those that stand inverted in its bytes put right (Intel SDM volume 2, section 2.3.5).
-/// `vvvv` is a register number from 0 to 15.
+/// The fields of a VEX prefix, those that stand inverted in its bytes put right (Intel SDM volume 2, sections 2.3.5 and
+/// 2.3.6). `vvvv` is a register number from 0 to 15.
 #[derive(Clone, Copy, PartialEq, Eq, Debug)]
 pub struct Prefix {
     pub map: Map,
