@@ -1,7 +1,8 @@
 //! The program: canonical bytes of VEX instructions, line by line.
 #![tactic(auto)]
 
-ghost use Rattle.std.specs.Prelude.{◌≡◌, ◌≢◌, ◌+◌, ◌<◌, ◌≤◌, ◌↔◌, ◌⊎◌, length, take, [], Some, IfSome, IsSome, IsSomeAnd, IsNone, IsTrue, IsFalse};
+ghost use Rattle.std.specs.Prelude.{◌≡◌, ◌≢◌, ◌+◌, ◌<◌, ◌≤◌, ◌↔◌, ◌⊎◌, ◌∷◌, ◌++◌, true, length, take, [], Some, IfSome, IsSome, IsSomeAnd, IsNone, IsTrue, IsFalse, IsUtf8};
+ghost use Rattle.std.specs.Bool.{OnTrue, OnFalse};
 ghost use Rattle.std.specs.Io.KnownBytes.{Appends};
 ghost use Rattle.vex_tool.specs.Command.{command};
 ghost use Rattle.vex_tool.specs.Ends.{RoseOrIsLast, RoseByMoreThan, IsQuiet, AppendsFront, WhereTaken};
@@ -89,8 +90,12 @@ pub fn run<S: Source, K: Sink>(alloc: Global, words: &Words, source: &mut S, sin
 // A word that is refused, for an argument that is too long to be kept or is not UTF-8.
 const REFUSED: &str = "xxxxxxxxxxxxxxxxxxxxxxxxxxxxxxxxxxxxxxxxxxxxxxxxxxxxxxxxxxxxxxxxx";
 
-// Pushes an argument.
-fn push_argument(words: &mut Words, argument: &[u8]) -> bool {
+// Pushes an argument. It is refused exactly where the word that it is would be, or it is not UTF-8.
+fn push_argument(words: &mut Words, argument: &[u8]) -> bool
+    ensures accepts { IsTrue result ↔ (IsUtf8 argument.now × ((length words.old.0 < 4) × (length argument.now ≤ 64))) }
+    ensures accepted { OnTrue result (words.new ≡ (words.old.0 ++ argument.now ∷ [], words.old.1)) }
+    ensures refused { OnFalse result (words.new ≡ (words.old.0, true)) }
+{
     match str::from_utf8(argument) {
         Ok(word) => words.push(word),
         Err(_) => words.push(REFUSED),
