@@ -12,9 +12,10 @@ use Rattle.vex_rows.specs.Row.{Row, opcode_of}
 use Rattle.vex_decode.specs.Spelling.{Syntax, bytes_of, meant, Spells}
 use Rattle.vex_decode.specs.Walk.{walk}
 use Rattle.vex_decode.specs.Blocked.{taken, refused, blocked}
-use Rattle.vex_decode.specs.Laws.{PrefixFree, OneMeaning, BeginsPermitted, BlockedOrBegun, MoreBytes, ExhaustedAtEnd, MoreSettings, SameAnswer}
+use Rattle.vex_decode.specs.Laws.{PrefixFree, OneMeaning, ReadingIsSpelling, BeginsPermitted, BlockedOrBegun, MoreBytes, ExhaustedAtEnd, MoreSettings, SameAnswer}
 use Rattle.vex_decode.proofs.Binds.{ok_same}
 use Rattle.vex_decode.proofs.Spells.{walk-spelling, begun-not_blocked, not_blocked-spells, opcode_meant, spells-parts, refused-permitted}
+use Rattle.vex_decode.proofs.Walk.{walk-again, walk-written}
 use Rattle.vex_decode.proofs.Readers.{IsReader-walk}
 use Rattle.vex_decode.proofs.Permitted.{permits-more}
 
@@ -37,6 +38,12 @@ prefix_free a b m n p q begins = (one_beginning a b begins.0 [] m n p q (sym beg
 
 pub one_meaning : OneMeaning
 one_meaning bytes m n p q = (one_beginning bytes bytes [] [] m n p q refl).meaning
+
+pub reading_is_spelling : ReadingIsSpelling
+reading_is_spelling bytes row parts rest is = (
+  λ e. let was = walk-written bytes is (row, parts) rest e in record { is_row = was.is_row; fits = was.is; written = was.written },
+  λ at. ap walk at.written ∙ walk-again row parts rest at.is_row at.fits,
+)
 
 -- bytes are not blocked exactly where they begin with a permitted spelling
 begun : (settings : List Bool) (bytes : List ℕ) → IsBytes bytes → blocked settings bytes ≡ None → BeginsPermitted settings bytes

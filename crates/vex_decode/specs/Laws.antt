@@ -1,11 +1,13 @@
 -- The laws of spellings.
-use Rattle.std.specs.Prelude.{◌≡◌, ◌≢◌, ◌↔◌, ℕ, ◌≤◌, Bool, false, List, ◌++◌, length, take, Some, None, IsTrue}
+use Rattle.std.specs.Prelude.{◌≡◌, ◌≢◌, ◌↔◌, ℕ, ◌≤◌, Bool, false, List, ◌++◌, length, take, Some, None, Ok, IsTrue}
 use Rattle.x86_operand.specs.declared.error.DecodeError.TheVariants.{ExhaustedInput}
 use Rattle.x86_operand.specs.Meaning.{Meaning}
 use Rattle.x86_permit.specs.Permission.{permits}
 use Rattle.x86_settings.specs.Bits.{is_set}
 use Rattle.x86_address.specs.Bytes.{IsBytes, Begins}
-use Rattle.vex_decode.specs.Spelling.{Spells}
+use Rattle.vex_rows.specs.Row.{Row, IsRow}
+use Rattle.vex_decode.specs.Spelling.{Syntax, IsSyntax, bytes_of, Spells}
+use Rattle.vex_decode.specs.Walk.{walk}
 use Rattle.vex_decode.specs.Blocked.{blocked}
 
 -- of two spellings of which one begins the other, the one is the other
@@ -23,6 +25,18 @@ SpellingBytes = (bytes : List ℕ) (m : Meaning) → Spells bytes m → IsBytes 
 -- bytes spell at most one meaning
 abbrev pub OneMeaning : Type 0
 OneMeaning = (bytes : List ℕ) (m n : Meaning) → Spells bytes m → Spells bytes n → m ≡ n
+
+-- the bytes are those that a row writes for these parts of a spelling, and then the rest
+pub record BeginsAs (bytes : List ℕ) (row : Row) (parts : Syntax) (rest : List ℕ) : Type 0 where
+  pub is_row : IsRow row
+  pub fits : IsSyntax row parts
+  pub written : bytes ≡ bytes_of row parts ++ rest
+
+-- the row and the parts that a decode takes out of bytes are exactly those of the spelling that begins them
+abbrev pub ReadingIsSpelling : Type 0
+ReadingIsSpelling =
+    (bytes : List ℕ) (row : Row) (parts : Syntax) (rest : List ℕ) → IsBytes bytes
+    → walk bytes ≡ Ok ((row, parts), rest) ↔ BeginsAs bytes row parts rest
 
 -- the bytes begin with a spelling of a meaning whose opcode the settings permit
 pub record BeginsPermitted (settings : List Bool) (bytes : List ℕ) : Type 0 where

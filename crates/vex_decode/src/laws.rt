@@ -1,6 +1,6 @@
 //! What holds of all spellings, each law as the contract of a function that does nothing.
 
-ghost use Rattle.vex_decode.specs.Laws.{PrefixFree, SpellingLength, SpellingBytes, OneMeaning, BlockedOrBegun, MoreBytes, ExhaustedAtEnd, MoreSettings, SameAnswer};
+ghost use Rattle.vex_decode.specs.Laws.{PrefixFree, SpellingLength, SpellingBytes, OneMeaning, ReadingIsSpelling, BlockedOrBegun, MoreBytes, ExhaustedAtEnd, MoreSettings, SameAnswer};
 
 /// If one spelling begins another they are equal, and every spelling is a string of 3 to 11 bytes.
 pub fn prefix_free()
@@ -12,6 +12,12 @@ pub fn prefix_free()
 /// A byte string spells at most one meaning.
 pub fn one_meaning()
     ensures { OneMeaning }
+{}
+
+/// What a decode takes out of bytes, the row, the parts of the spelling and the bytes that are left, is exactly what a row
+/// writes at their front.
+pub fn reading_is_spelling()
+    ensures { ReadingIsSpelling }
 {}
 
 /// No step of a decode fails exactly where some beginning of the bytes spells a meaning whose opcode is permitted, and

@@ -3,4 +3,4 @@
 
 mod laws;
 
-pub use laws::{blocked_or_begun, more_settings, one_meaning, prefix_free};
+pub use laws::{blocked_or_begun, more_settings, one_meaning, prefix_free, reading_is_spelling};

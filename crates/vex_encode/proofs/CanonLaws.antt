@@ -1,6 +1,7 @@
 -- The laws of canonical bytes.
-use Rattle.std.specs.Prelude.{◌≡◌, refl, ℕ, List, Option, Some, None}
-use Rattle.std.proofs.Common.{ap, sym, ◌∙◌}
+use Rattle.std.specs.Prelude.{◌≡◌, refl, ℕ, List, [], length, take, drop, Option, Some, None}
+use Rattle.std.proofs.Common.{ap, sym, ◌∙◌, append-nil, take-append-drop}
+use Rattle.std.proofs.lemmas.List.{length-take-le}
 use Rattle.x86_operand.specs.Meaning.{Meaning}
 use Rattle.vex_rows.specs.Row.{Row, IsRow}
 use Rattle.vex_decode.specs.Spelling.{SpellsBy, Spells}
@@ -8,7 +9,7 @@ use Rattle.vex_decode.proofs.SpellingLaws as spelling
 use Rattle.vex_decode.proofs.Spells.{spells-not_blocked}
 use Rattle.vex_encode.specs.Standard.{standard}
 use Rattle.vex_encode.specs.Canon.{canon}
-use Rattle.vex_encode.specs.Laws.{CanonicalTellsApart, Shortest, CanonicalNotBlocked, CanonicalAgain, StandardIsNone}
+use Rattle.vex_encode.specs.Laws.{CanonicalTellsApart, Shortest, CanonicalNotBlocked, CanonicalDecodes, CanonicalAgain, StandardIsNone}
 use Rattle.vex_encode.proofs.Standard.{standard_there, standard_spells}
 use Rattle.vex_encode.proofs.Canon.{canon_spells, canon_least}
 
@@ -28,6 +29,13 @@ canonical_tells_apart a b m n p q = (same_meaning a m n p, ap canon)
 
 pub canonical_not_blocked : CanonicalNotBlocked
 canonical_not_blocked settings m c permitted e = spells-not_blocked settings c m (canon_spells m c e) permitted
+
+-- a decode of canonical bytes takes them all
+pub canonical_decodes : CanonicalDecodes
+canonical_decodes settings m n c len e decodes =
+    let one = spelling.one_beginning (take len c) c (drop len c) [] n m decodes.spells (canon_spells m c e)
+    (take-append-drop len c ∙ sym (append-nil c)) in
+    (one.meaning, sym (length-take-le len c decodes.within) ∙ ap length one.front)
 
 -- what canonical bytes spell is what they are canonical of
 pub canonical_again : CanonicalAgain

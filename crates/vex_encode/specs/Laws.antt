@@ -5,6 +5,7 @@ use Rattle.x86_permit.specs.Permission.{permits}
 use Rattle.vex_rows.specs.Row.{Row, IsRow}
 use Rattle.vex_decode.specs.Spelling.{SpellsBy, Spells}
 use Rattle.vex_decode.specs.Blocked.{blocked}
+use Rattle.vex_decode.specs.Laws.{Decodes}
 use Rattle.vex_encode.specs.Standard.{standard}
 use Rattle.vex_encode.specs.Canon.{canon}
 use Rattle.vex_encode.specs.Conditions.{CanGive}
@@ -33,6 +34,12 @@ CanonicalNotBlocked =
 -- the canonical bytes of a meaning spell that meaning
 abbrev pub CanonicalSpells : Type 0
 CanonicalSpells = (m : Meaning) (c : List ℕ) → canon m ≡ Some c → Spells c m
+
+-- a decode of the canonical bytes of a meaning answers that meaning, and their number
+abbrev pub CanonicalDecodes : Type 0
+CanonicalDecodes =
+    (settings : List Bool) (m n : Meaning) (c : List ℕ) (len : ℕ) → canon m ≡ Some c → Decodes settings c n len
+    → (n ≡ m) × (len ≡ length c)
 
 -- canonical bytes are their own: whatever they mean has them as its canonical bytes
 abbrev pub CanonicalAgain : Type 0

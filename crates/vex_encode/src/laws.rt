@@ -1,6 +1,6 @@
 //! What holds of all canonical bytes, each law as the contract of a function that does nothing.
 
-ghost use Rattle.vex_encode.specs.Laws.{CanonicalAgain, CanonicalNotBlocked, CanonicalSpells, CanonicalTellsApart, Shortest, StandardIsNone, StandardIsSome};
+ghost use Rattle.vex_encode.specs.Laws.{CanonicalAgain, CanonicalDecodes, CanonicalNotBlocked, CanonicalSpells, CanonicalTellsApart, Shortest, StandardIsNone, StandardIsSome};
 
 /// Meanings that have a spelling have equal canonical bytes exactly where they are equal.
 pub fn canonical_tells_apart()
@@ -12,11 +12,12 @@ pub fn shortest()
     ensures { Shortest }
 {}
 
-/// The canonical bytes of a meaning whose opcode is permitted are not blocked, spell that meaning, and are their own
-/// canonical bytes.
+/// The canonical bytes of a meaning whose opcode is permitted are not blocked, and spell that meaning. A decode of them
+/// answers it with their number, so that they are their own canonical bytes.
 pub fn recode_again()
     ensures not_blocked { CanonicalNotBlocked }
     ensures spells { CanonicalSpells }
+    ensures decodes { CanonicalDecodes }
     ensures again { CanonicalAgain }
 {}
 
