@@ -11,10 +11,11 @@ use Rattle.vex_decode.specs.Blocked.{blocked, taken}
 use Rattle.vex_decode.proofs.Spells.{walk-spelling}
 use Rattle.vex_encode.specs.Canon.{canon}
 use Rattle.vex_tool.specs.ErrorLine.{error_line}
+use Rattle.vex_tool.specs.Laws.{LineOfSpelling, LineOfError}
 use Rattle.vex_tool.specs.ResultLine.{instruction_line, line_of_reading, line_unless_blocked, result_line}
 
 -- bytes that an error blocks
-pub line-refused : (settings : List Bool) (bytes : List ℕ) (error : DecodeError) (n : ℕ) → blocked settings bytes ≡ Some (error, n) → result_line settings bytes ≡ error_line (decode_error_name error)
+pub line-refused : LineOfError
 unfolding result_line
 line-refused settings bytes error n h = ap (line_unless_blocked bytes) h
 
@@ -23,7 +24,7 @@ taken-front : (bytes : List ℕ) (n : ℕ) → n ≤ length bytes → taken byte
 taken-front bytes n within = omega (arith, within, length-drop n bytes)
 
 -- bytes that a permitted spelling begins
-pub line-recoded : (settings : List Bool) (bytes : List ℕ) (n : ℕ) (m : Meaning) (canonical : List ℕ) → blocked settings bytes ≡ None → n ≤ length bytes → Spells (take n bytes) m → canon m ≡ Some canonical → result_line settings bytes ≡ instruction_line n m canonical
+pub line-recoded : LineOfSpelling
 unfolding result_line
 line-recoded settings bytes n m canonical begun within spells c =
     let row = spells.row in

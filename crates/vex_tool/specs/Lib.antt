@@ -6,6 +6,7 @@ pub mod Lines
 pub mod Command
 pub mod ErrorLine
 pub mod ResultLine
+pub mod Laws
 pub mod Report
 pub mod LineMachine
 pub mod Run

@@ -23,6 +23,7 @@ use words::{MAX_WORD_LEN, Words};
 mod command;
 mod ends;
 mod input;
+mod laws;
 mod line_buffer;
 mod line_text;
 mod memory_ends;

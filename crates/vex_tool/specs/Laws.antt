@@ -1,0 +1,24 @@
+-- The laws of result lines.
+use Rattle.std.specs.Prelude.{◌≡◌, ℕ, ◌≤◌, Bool, List, length, take, Some, None}
+use Rattle.x86_operand.specs.declared.error.DecodeError.{DecodeError}
+use Rattle.x86_operand.specs.Errors.{decode_error_name}
+use Rattle.x86_operand.specs.Meaning.{Meaning}
+use Rattle.vex_decode.specs.Spelling.{Spells}
+use Rattle.vex_decode.specs.Blocked.{blocked}
+use Rattle.vex_encode.specs.Canon.{canon}
+use Rattle.vex_tool.specs.ErrorLine.{error_line}
+use Rattle.vex_tool.specs.ResultLine.{instruction_line, result_line}
+
+-- where no error blocks the bytes and the first n of them spell a meaning, the line is that of n, of this meaning and of its
+-- canonical bytes
+abbrev pub LineOfSpelling : Type 0
+LineOfSpelling =
+    (settings : List Bool) (bytes : List ℕ) (n : ℕ) (m : Meaning) (canonical : List ℕ)
+    → blocked settings bytes ≡ None → n ≤ length bytes → Spells (take n bytes) m → canon m ≡ Some canonical
+    → result_line settings bytes ≡ instruction_line n m canonical
+
+-- where an error blocks the bytes, the line names it
+abbrev pub LineOfError : Type 0
+LineOfError =
+    (settings : List Bool) (bytes : List ℕ) (error : DecodeError) (n : ℕ) → blocked settings bytes ≡ Some (error, n)
+    → result_line settings bytes ≡ error_line (decode_error_name error)

@@ -1,0 +1,10 @@
+//! What holds of all result lines, each law as the contract of a function that does nothing.
+
+ghost use Rattle.vex_tool.specs.Laws.{LineOfError, LineOfSpelling};
+
+/// The result line of some bytes is that of the length, the meaning and the canonical bytes of the spelling that begins
+/// them, or that of the error that blocks them.
+pub fn result_lines()
+    ensures spelling { LineOfSpelling }
+    ensures error { LineOfError }
+{}
