@@ -6,7 +6,7 @@ use Rattle.vex_rows.specs.declared.key.Pp.{Pp}
 use Rattle.vex_rows.specs.declared.key.Prefix.{Prefix}
 use Rattle.vex_rows.specs.Rules.{map_number, pp_number}
 
--- the fields of a prefix, those that stand inverted in its bytes put right (SDM volume 2, sections 2.3.5 and 2.3.6)
+-- the fields of a prefix, those that stand inverted in its bytes put right (Intel SDM volume 2, sections 2.3.5 and 2.3.6)
 pub record Fields : Type 0 where
   pub map : Map
   pub pp : Pp
@@ -26,7 +26,7 @@ pub data PrefixForm : Type 0 where
 abbrev pub low_byte : Fields → ℕ
 low_byte f = 8 * (15 - f.v) + 4 * f.l + pp_number f.pp
 
--- the bytes of a prefix (SDM volume 2, figure 2-9)
+-- the bytes of a prefix (Intel SDM volume 2, figure 2-9)
 abbrev pub prefix_bytes : PrefixForm → Fields → List ℕ
 prefix_bytes C5 f = 0xC5 ∷ (128 * (1 - f.r) + low_byte f) ∷ []
 prefix_bytes C4 f =

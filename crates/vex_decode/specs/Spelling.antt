@@ -22,7 +22,7 @@ pub record Syntax : Type 0 where
 abbrev pub imm_bytes : Bool → ℕ → List ℕ
 imm_bytes has imm = if has then imm ∷ [] else []
 
--- the bytes of a spelling: prefix, opcode byte, ModRM with SIB and displacement, immediate (SDM volume 2, section 2.3.1)
+-- the bytes of a spelling: prefix, opcode byte, ModRM with SIB and displacement, immediate (Intel SDM volume 2, section 2.3.1)
 abbrev pub bytes_of : Row → Syntax → List ℕ
 bytes_of row s = prefix_bytes s.form s.fields ++ row.entry.byte ∷ (place_bytes s.reg s.place ++ imm_bytes (has_imm row) s.imm)
 
@@ -30,7 +30,7 @@ bytes_of row s = prefix_bytes s.form s.fields ++ row.entry.byte ∷ (place_bytes
 abbrev pub meant : Row → Syntax → Meaning
 meant row s = gives row s.fields.r s.fields.v s.reg (target s.place s.fields.x s.fields.b) s.imm
 
--- vvvv is 0 where a step demands it (SDM volume 2, section 2.3.5.6)
+-- vvvv is 0 where a step demands it (Intel SDM volume 2, section 2.3.5.6)
 abbrev pub FitsRule : VvvvRule → ℕ → Type 0
 FitsRule Named v = Unit {0}
 FitsRule Zero v = v ≡ 0

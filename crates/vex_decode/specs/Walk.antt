@@ -24,15 +24,15 @@ use Rattle.vex_decode.specs.Spelling.{Syntax}
 abbrev pub inverted : ℕ → Bool
 inverted bit = bit == 0
 
--- the implied prefix of the number pp
+-- the implied prefix of the number pp (Intel SDM volume 2, section 2.3.6.3)
 abbrev pub pp_of : ℕ → Pp
 pp_of pp = if pp == 0 then Plain else if pp == 1 then Prefix66 else if pp == 2 then PrefixF3 else PrefixF2
 
--- the opcode map of a number, which must be 1, 2 or 3
+-- the opcode map of a number, which must be 1, 2 or 3 (Intel SDM volume 2, section 2.3.6.1)
 abbrev pub map_of : ℕ → Option Map
 map_of k = if k == 1 then Some Map0F else if k == 2 then Some Map0F38 else if k == 3 then Some Map0F3A else None
 
--- the fields of a two-byte prefix
+-- the fields of a two-byte prefix (Intel SDM volume 2, figure 2-9)
 abbrev pub fields_of_two : ℕ → Fields
 fields_of_two p = record {
   map = Map0F;
@@ -45,7 +45,7 @@ fields_of_two p = record {
   v = 15 - (p / 8) % 16;
 }
 
--- the fields of a three-byte prefix, of this map
+-- the fields of a three-byte prefix, of this map (Intel SDM volume 2, figure 2-9)
 abbrev pub fields_of_three : Map → ℕ → ℕ → Fields
 fields_of_three map p q = record {
   map = map;
@@ -73,7 +73,7 @@ read_fields C4 bytes = do
   q ← take_byte p.1
   fields_by_map (map_of (p.0 % 32)) p.0 q.0 q.1
 
--- the first byte says the form of the prefix
+-- the first byte says the form of the prefix (Intel SDM volume 2, section 2.3.5.1)
 abbrev pub form_of : ℕ → List ℕ → Reading PrefixForm
 form_of first rest = if first == 0xC5 then Ok (C5, rest) else if first == 0xC4 then Ok (C4, rest) else Err (Outside, rest)
 
@@ -93,6 +93,7 @@ key_of f byte = record { map = f.map; pp = f.pp; byte = byte; w = f.w; l = f.l =
 unfoldable pub entry_of : Key → Option Entry
 entry_of key = find (λ entry. has_key entry key) table
 
+-- that entry, or the refusal where there is none; no byte is taken
 abbrev pub found : Option Entry → List ℕ → Reading Entry
 found None rest = Err (InvalidOpcode, rest)
 found (Some entry) rest = Ok (entry, rest)
@@ -117,7 +118,7 @@ check_all entry f kind reg [] bytes = Ok (tt, bytes)
 check_all entry f kind reg (c ∷ cs) bytes =
     if passes entry f kind reg c then check_all entry f kind reg cs bytes else Err (refusal c, bytes)
 
--- the kind of operand that the field mod says
+-- the kind of operand that the field mod says (Intel SDM volume 2, section 2.1.3)
 abbrev pub kind_of_mod : ℕ → Kind
 kind_of_mod mode = if mode == 3 then InRegister else InMemory
 

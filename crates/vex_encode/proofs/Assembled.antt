@@ -15,8 +15,8 @@ use Rattle.vex_forms.specs.Slots.{slots, names_g, names_v, names_e, names_imm}
 use Rattle.vex_forms.specs.Layout.{IsLayout, row_for}
 use Rattle.vex_decode.specs.Fields.{fields_of}
 use Rattle.vex_decode.proofs.Prefix.{bit-is_one}
-use Rattle.vex_encode.specs.declared.operands.Numbers.{Numbers}
-use Rattle.vex_encode.specs.Standard.{operand_at, number_of, imm_of, target_of, reg_for, candidate}
+use Rattle.vex_encode.specs.declared.operands.OperandFields.{OperandFields}
+use Rattle.vex_encode.specs.Standard.{operand_of_kind, number_of, imm_of, target_of, reg_for, candidate}
 use Rattle.vex_encode.specs.Operands.{target_seen}
 use Rattle.vex_encode.specs.Assembly.{Assembles, place_for}
 use Rattle.vex_encode.proofs.Chosen.{l_seen}
@@ -48,30 +48,30 @@ reg_made None g = refl
 reg_made (Some group) g = refl
 
 -- what is put together is the candidate of the row
-pub record IsCandidate (row : Row) (m : Meaning) (prefix : Prefix) (numbers : Numbers) : Type 0 where
+pub record IsCandidate (row : Row) (m : Meaning) (prefix : Prefix) (numbers : OperandFields) : Type 0 where
   pub fields : fields_of prefix ≡ (candidate row m).fields
   pub reg : numbers.reg ≡ (candidate row m).reg
   pub place : place_for numbers.register ≡ (candidate row m).place
   pub named : target_seen numbers.register ≡ target (candidate row m).place (candidate row m).fields.x (candidate row m).fields.b
   pub imm : numbers.imm ≡ (candidate row m).imm
 
-pub assembled_is : (entry : Entry) (w l : Bool) (group : ℕ) (layout : RowLayout) (m : Meaning) (prefix : Prefix) (numbers : Numbers) →
+pub assembled_is : (entry : Entry) (w l : Bool) (group : ℕ) (layout : RowLayout) (m : Meaning) (prefix : Prefix) (numbers : OperandFields) →
     IsLayout (row_for entry w l false group) layout → Assembles entry w l layout m prefix numbers → IsCandidate (row_for entry w l false group) m prefix numbers
 unfolding candidate
 assembled_is entry w l group layout m prefix numbers is made =
     let row : Row = row_for entry w l false group in
     let modrm = is.has_modrm in
-    let e : OperandMeaning = operand_at names_e (slots row) m.operands in
-    let e_is : operand_at names_e layout.slots.items m.operands ≡ e = ap (λ s. operand_at names_e s m.operands) is.slots in
-    let g_is : number_of (operand_at names_g layout.slots.items m.operands) ≡ number_of (operand_at names_g (slots row) m.operands) = ap (λ s. number_of (operand_at names_g s m.operands)) is.slots in
-    let v_is : number_of (operand_at names_v layout.slots.items m.operands) ≡ number_of (operand_at names_v (slots row) m.operands) = ap (λ s. number_of (operand_at names_v s m.operands)) is.slots in
-    let i_is : imm_of (operand_at names_imm layout.slots.items m.operands) ≡ imm_of (operand_at names_imm (slots row) m.operands) = ap (λ s. imm_of (operand_at names_imm s m.operands)) is.slots in
-    let r : bit prefix.r ≡ (number_of (operand_at names_g (slots row) m.operands) / 8) % 2 =
-    ap bit (made.r ∙ ap (λ g. (g / 8) % 2 == 1) g_is) ∙ bit-is_one ((number_of (operand_at names_g (slots row) m.operands) / 8) % 2) (omega arith) in
+    let e : OperandMeaning = operand_of_kind names_e (slots row) m.operands in
+    let e_is : operand_of_kind names_e layout.slots.items m.operands ≡ e = ap (λ s. operand_of_kind names_e s m.operands) is.slots in
+    let g_is : number_of (operand_of_kind names_g layout.slots.items m.operands) ≡ number_of (operand_of_kind names_g (slots row) m.operands) = ap (λ s. number_of (operand_of_kind names_g s m.operands)) is.slots in
+    let v_is : number_of (operand_of_kind names_v layout.slots.items m.operands) ≡ number_of (operand_of_kind names_v (slots row) m.operands) = ap (λ s. number_of (operand_of_kind names_v s m.operands)) is.slots in
+    let i_is : imm_of (operand_of_kind names_imm layout.slots.items m.operands) ≡ imm_of (operand_of_kind names_imm (slots row) m.operands) = ap (λ s. imm_of (operand_of_kind names_imm s m.operands)) is.slots in
+    let r : bit prefix.r ≡ (number_of (operand_of_kind names_g (slots row) m.operands) / 8) % 2 =
+    ap bit (made.r ∙ ap (λ g. (g / 8) % 2 == 1) g_is) ∙ bit-is_one ((number_of (operand_of_kind names_g (slots row) m.operands) / 8) % 2) (omega arith) in
     let l_is : bit prefix.l ≡ (if l then 1 else 0) = ap bit made.l_is ∙ sym (l_seen l) in
     let x : prefix.x ≡ x_of (target_of (kind_by (steps entry.form).modrm) e) = made.x ∙ sym (x_none (steps entry.form).modrm e) in
     let b : prefix.b ≡ b_of (target_of (kind_by (steps entry.form).modrm) e) = made.b ∙ ap₂ (λ h o. h && ((number_of o / 8) % 2 == 1)) modrm e_is ∙ sym (b_upper (steps entry.form).modrm e) in
-    let v : prefix.vvvv ≡ number_of (operand_at names_v (slots row) m.operands) % 16 = made.vvvv ∙ ap (λ v. v % 16) v_is in
+    let v : prefix.vvvv ≡ number_of (operand_of_kind names_v (slots row) m.operands) % 16 = made.vvvv ∙ ap (λ v. v % 16) v_is in
     let register : numbers.register ≡ (if (steps entry.form).modrm then Some (number_of e % 16) else None) = made.register ∙ ap₂ (λ h o. if h then Some (number_of o % 16) else None) modrm e_is in
     record {
       fields = λ i. record { map = made.map i; pp = made.pp i; w = made.w_is i; l = l_is i; r = r i; x = x i; b = b i; v = v i };

@@ -17,14 +17,14 @@ use Rattle.vex_forms.specs.Gives.{slot_operand, target_operand}
 use Rattle.vex_forms.specs.Tests.{immediates}
 use Rattle.vex_forms.specs.Slots.{names_g, names_v, names_e, names_imm}
 use Rattle.vex_decode.specs.Spelling.{FitsGroup}
-use Rattle.vex_encode.specs.Standard.{operand_at, number_of, imm_of, target_of, reg_for}
+use Rattle.vex_encode.specs.Standard.{operand_of_kind, number_of, imm_of, target_of, reg_for}
 
 -- the first operand whose slot passes a test, among operands that a function gives of the slots
 pub record First (is : Slot → Bool) (f : Slot → OperandMeaning) (slots : List Slot) : Type 0 where
   pub slot : Slot
   pub among : Among slot slots
   pub passes : is slot ≡ true
-  pub operand : operand_at is slots (map f slots) ≡ f slot
+  pub operand : operand_of_kind is slots (map f slots) ≡ f slot
 
 first_operand : (is : Slot → Bool) (f : Slot → OperandMeaning) (slots : List Slot) (slot : Slot) → Among slot slots → is slot ≡ true → First is f slots
 first_operand is f [] slot m h = absurd m
@@ -35,20 +35,20 @@ first_operand is f (s ∷ slots) slot m h = by (is s) refl m (λ k. first_operan
   by false e (inr k) next = let later = next k in record { slot = later.slot; among = inr later.among; passes = later.passes; operand = rw e later.operand }
 
 -- there is such a slot, or no operand
-pub first_or_none : (is : Slot → Bool) (f : Slot → OperandMeaning) (slots : List Slot) → First is f slots ⊎ (operand_at is slots (map f slots) ≡ nothing)
+pub first_or_none : (is : Slot → Bool) (f : Slot → OperandMeaning) (slots : List Slot) → First is f slots ⊎ (operand_of_kind is slots (map f slots) ≡ nothing)
 first_or_none is f [] = inr refl
 first_or_none is f (s ∷ slots) = by (is s) refl (first_or_none is f slots) where
-  by : (b : Bool) → is s ≡ b → First is f slots ⊎ (operand_at is slots (map f slots) ≡ nothing) → First is f (s ∷ slots) ⊎ (operand_at is (s ∷ slots) (map f (s ∷ slots)) ≡ nothing)
+  by : (b : Bool) → is s ≡ b → First is f slots ⊎ (operand_of_kind is slots (map f slots) ≡ nothing) → First is f (s ∷ slots) ⊎ (operand_of_kind is (s ∷ slots) (map f (s ∷ slots)) ≡ nothing)
   by true e next = inl (record { slot = s; among = inl refl; passes = e; operand = rw e refl })
   by false e (inl later) = inl (record { slot = later.slot; among = inr later.among; passes = later.passes; operand = rw e later.operand })
   by false e (inr none) = inr (rw e none)
 
 -- no operand where no slot passes
-pub no_operand : (is : Slot → Bool) (slots : List Slot) (operands : List OperandMeaning) → list_any is slots ≡ false → operand_at is slots operands ≡ nothing
+pub no_operand : (is : Slot → Bool) (slots : List Slot) (operands : List OperandMeaning) → list_any is slots ≡ false → operand_of_kind is slots operands ≡ nothing
 no_operand is [] operands h = refl
 no_operand is (s ∷ slots) [] h = refl
 no_operand is (s ∷ slots) (operand ∷ operands) h = by (is s) (list_any is slots) h (no_operand is slots operands) where
-  by : (b c : Bool) → (b || c) ≡ false → (c ≡ false → operand_at is slots operands ≡ nothing) → (if b then operand else operand_at is slots operands) ≡ nothing
+  by : (b c : Bool) → (b || c) ≡ false → (c ≡ false → operand_of_kind is slots operands ≡ nothing) → (if b then operand else operand_of_kind is slots operands) ≡ nothing
   by true c h next = cc
   by false c h next = next h
 
@@ -137,7 +137,7 @@ module _ (index_bank : RegisterBank) (slots : List Slot) (kind : Kind) (group : 
     (few : immediates slots ≤ 1) (r_fits : r ≤ 1) (v_fits : v ≤ 15) (reg_fits : reg < 8) (imm_fits : imm < 256)
     (is_place : IsPlace place) (is_kind : kind_of place ≡ kind) (in_group : FitsGroup group reg) where
   immediate_again : (e' : Target) (r' v' reg' : ℕ) (slot : Slot) → Among slot slots → names_imm slot ≡ true →
-      slot_operand index_bank r' v' reg' e' (imm_of (operand_at names_imm slots (map (slot_operand index_bank r v reg (target place x b) imm) slots))) slot
+      slot_operand index_bank r' v' reg' e' (imm_of (operand_of_kind names_imm slots (map (slot_operand index_bank r v reg (target place x b) imm) slots))) slot
       ≡ slot_operand index_bank r v reg (target place x b) imm slot
   immediate_again e' r' v' reg' slot m h =
       let first = first_operand names_imm (slot_operand index_bank r v reg (target place x b) imm) slots slot m h in
@@ -148,9 +148,9 @@ module _ (index_bank : RegisterBank) (slots : List Slot) (kind : Kind) (group : 
 
   pub slot_again : (slot : Slot) → Among slot slots →
       let operands = map (slot_operand index_bank r v reg (target place x b) imm) slots in
-      let g = number_of (operand_at names_g slots operands) in
-      let e = target_of kind (operand_at names_e slots operands) in
-      slot_operand index_bank ((g / 8) % 2) (number_of (operand_at names_v slots operands) % 16) (reg_for group g) (target (shortest e) (x_of e) (b_of e)) (imm_of (operand_at names_imm slots operands)) slot
+      let g = number_of (operand_of_kind names_g slots operands) in
+      let e = target_of kind (operand_of_kind names_e slots operands) in
+      slot_operand index_bank ((g / 8) % 2) (number_of (operand_of_kind names_v slots operands) % 16) (reg_for group g) (target (shortest e) (x_of e) (b_of e)) (imm_of (operand_of_kind names_imm slots operands)) slot
       ≡ slot_operand index_bank r v reg (target place x b) imm slot
   slot_again (G bank) m =
       let first = first_operand names_g (slot_operand index_bank r v reg (target place x b) imm) slots (G bank) m refl in

@@ -31,20 +31,20 @@ use Rattle.vex_forms.specs.Gives.{gives, slot_operand, target_operand}
 use Rattle.vex_forms.specs.Tests.{immediates}
 use Rattle.vex_forms.proofs.Sound.{sound_row, distinct, free}
 use Rattle.vex_decode.specs.Spelling.{Syntax, meant, IsSyntax}
-use Rattle.vex_encode.specs.Standard.{operand_at, number_of, imm_of, target_of, reg_for, candidate, standard}
-use Rattle.vex_encode.specs.Conditions.{RegisterFits, BaseFits, IndexFits, AddressFits, PlacedFits, OperandFits, OperandsFit, CanGive}
+use Rattle.vex_encode.specs.Standard.{operand_of_kind, number_of, imm_of, target_of, reg_for, candidate, standard}
+use Rattle.vex_encode.specs.Conditions.{RegisterFits, SlotBaseFits, SlotIndexFits, AddressFits, PlacedFits, OperandFits, OperandsFit, CanGive}
 use Rattle.vex_encode.specs.Laws.{StandardIsSome}
 use Rattle.vex_encode.proofs.Standard.{reg_below, imm_byte, few_at_most, group_none, or_false, standard_spells}
 
 -- ---- what a row gives fits
 
 -- an address that bytes can name fits, once its registers have banks
-base_given : (index_bank : RegisterBank) (base : Base) (index : Option (ℕ × ℕ)) → IsBase base → (base ≡ Rip → index ≡ None) → BaseFits (base_register base) (index_register index_bank index)
+base_given : (index_bank : RegisterBank) (base : Base) (index : Option (ℕ × ℕ)) → IsBase base → (base ≡ Rip → index ≡ None) → SlotBaseFits (base_register base) (index_register index_bank index)
 base_given index_bank NoBase index is alone = tt
 base_given index_bank Rip index is alone = inr (refl, ap (index_register index_bank) (alone refl))
 base_given index_bank (Numbered n) index is alone = inl (record { bank = refl; num = omega arith })
 
-index_given : (bank : RegisterBank) (index : Option (ℕ × ℕ)) → IsIndex index → IndexFits bank (index_register bank index)
+index_given : (bank : RegisterBank) (index : Option (ℕ × ℕ)) → IsIndex index → SlotIndexFits bank (index_register bank index)
 index_given bank None is = tt
 index_given bank (Some index) is = (record { bank = refl; num = omega arith }, is.1, scale_of_power index.1 (is.2, is.3, is.4))
 
@@ -83,26 +83,26 @@ module _ (index_bank : RegisterBank) (kind : Kind) (r v reg : ℕ) (place : Plac
 -- ---- what fits is given again
 
 -- an address that fits is one that bytes can name, and is again what it is without banks
-base_again : (base : Option Register) (index : Option Index) → BaseFits base index → base_register (plain_base base) ≡ base
+base_again : (base : Option Register) (index : Option Index) → SlotBaseFits base index → base_register (plain_base base) ≡ base
 base_again None index fits = refl
 base_again (Some reg) index (inl fits) = ap (λ bank. base_register (base_in bank reg.num)) fits.bank ∙ (λ i. Some (record { bank = sym fits.bank i; num = reg.num }))
 base_again (Some reg) index (inr fits) = ap (λ (reg : Register). base_register (base_in reg.bank reg.num)) fits.0 ∙ sym (ap Some fits.0)
 
-base_named : (base : Option Register) (index : Option Index) → BaseFits base index → IsBase (plain_base base)
+base_named : (base : Option Register) (index : Option Index) → SlotBaseFits base index → IsBase (plain_base base)
 base_named None index fits = tt
 base_named (Some reg) index (inl fits) = subst (λ bank. IsBase (base_in bank reg.num)) (sym fits.bank) (omega arith)
 base_named (Some reg) index (inr fits) = subst (λ (reg : Register). IsBase (base_in reg.bank reg.num)) (sym fits.0) tt
 
-base_alone : (base : Option Register) (index : Option Index) → BaseFits base index → plain_base base ≡ Rip → plain_index index ≡ None
+base_alone : (base : Option Register) (index : Option Index) → SlotBaseFits base index → plain_base base ≡ Rip → plain_index index ≡ None
 base_alone None index fits h = cc
 base_alone (Some reg) index (inl fits) h = let never : Numbered reg.num ≡ Rip = subst (λ bank. base_in bank reg.num ≡ Rip) fits.bank h in cc
 base_alone (Some reg) index (inr fits) h = ap plain_index fits.1
 
-index_again : (bank : RegisterBank) (index : Option Index) → IndexFits bank index → index_register bank (plain_index index) ≡ index
+index_again : (bank : RegisterBank) (index : Option Index) → SlotIndexFits bank index → index_register bank (plain_index index) ≡ index
 index_again bank None fits = refl
 index_again bank (Some index) fits = ap (λ bank. Some (record { reg = record { bank = bank; num = index.reg.num }; scale = index.scale })) (sym fits.0.bank)
 
-index_named : (bank : RegisterBank) (index : Option Index) → IndexFits bank index → IsIndex (plain_index index)
+index_named : (bank : RegisterBank) (index : Option Index) → SlotIndexFits bank index → IsIndex (plain_index index)
 index_named bank None fits = tt
 index_named bank (Some index) fits = let power = power_of_scale index.scale fits.2 in (omega arith, fits.1, power.0, power.1, power.2)
 
@@ -155,13 +155,13 @@ counted is slot operand (s ∷ slots) (o ∷ operands) (inr p) h = rw (count_con
   more false k = omega arith
 
 -- the operand of the only slot that passes is found
-found : (is : Slot → Bool) (slot : Slot) (operand : OperandMeaning) (slots : List Slot) (operands : List OperandMeaning) → count_by is slots ≤ 1 → Paired slot operand slots operands → is slot ≡ true → operand_at is slots operands ≡ operand
+found : (is : Slot → Bool) (slot : Slot) (operand : OperandMeaning) (slots : List Slot) (operands : List OperandMeaning) → count_by is slots ≤ 1 → Paired slot operand slots operands → is slot ≡ true → operand_of_kind is slots operands ≡ operand
 found is slot operand [] [] few p h = absurd p
 found is slot operand [] (o ∷ operands) few p h = absurd p
 found is slot operand (s ∷ slots) [] few p h = absurd p
 found is slot operand (s ∷ slots) (o ∷ operands) few (inl p) h = let passes : is s ≡ true = ap is (sym p.0) ∙ h in rw passes (sym p.1)
 found is slot operand (s ∷ slots) (o ∷ operands) few (inr p) h = by (is s) (rw (count_cons is s slots) at few) (counted is slot operand slots operands p h) (λ k. found is slot operand slots operands k p h) where
-  by : (b : Bool) → (if b then 1 else 0) + count_by is slots ≤ 1 → 1 ≤ count_by is slots → (count_by is slots ≤ 1 → operand_at is slots operands ≡ operand) → (if b then o else operand_at is slots operands) ≡ operand
+  by : (b : Bool) → (if b then 1 else 0) + count_by is slots ≤ 1 → 1 ≤ count_by is slots → (count_by is slots ≤ 1 → operand_of_kind is slots operands ≡ operand) → (if b then o else operand_of_kind is slots operands) ≡ operand
   by true few one next = absurd (omega arith)
   by false few one next = next (omega arith)
 
@@ -200,26 +200,26 @@ module _ (index_bank : RegisterBank) (kind : Kind) (group : Option ℕ) (slots :
     (one_g : count_by names_g slots ≤ 1) (one_v : count_by names_v slots ≤ 1) (one_e : count_by names_e slots ≤ 1) (one_imm : count_by names_imm slots ≤ 1)
     (no_group : list_any names_g slots ≡ true → group ≡ None) where
   slot_given : (slot : Slot) (operand : OperandMeaning) → Paired slot operand slots operands → OperandFits kind index_bank slot operand →
-      let g = number_of (operand_at names_g slots operands) in
-      let e = target_of kind (operand_at names_e slots operands) in
-      slot_operand index_bank ((g / 8) % 2) (number_of (operand_at names_v slots operands) % 16) (reg_for group g) (target (shortest e) (x_of e) (b_of e)) (imm_of (operand_at names_imm slots operands)) slot
+      let g = number_of (operand_of_kind names_g slots operands) in
+      let e = target_of kind (operand_of_kind names_e slots operands) in
+      slot_operand index_bank ((g / 8) % 2) (number_of (operand_of_kind names_v slots operands) % 16) (reg_for group g) (target (shortest e) (x_of e) (b_of e)) (imm_of (operand_of_kind names_imm slots operands)) slot
       ≡ operand
   slot_given (G bank) (register reg) p fits =
       let none = no_group (any_paired names_g (G bank) (register reg) slots operands p refl) in
-      let g : number_of (operand_at names_g slots operands) ≡ reg.num = ap number_of (found names_g (G bank) (register reg) slots operands one_g p refl) in
-      let num : reg_for group (number_of (operand_at names_g slots operands)) + 8 * ((number_of (operand_at names_g slots operands) / 8) % 2) ≡ reg.num = rw (none, g) (omega arith) in
+      let g : number_of (operand_of_kind names_g slots operands) ≡ reg.num = ap number_of (found names_g (G bank) (register reg) slots operands one_g p refl) in
+      let num : reg_for group (number_of (operand_of_kind names_g slots operands)) + 8 * ((number_of (operand_of_kind names_g slots operands) / 8) % 2) ≡ reg.num = rw (none, g) (omega arith) in
       register_again bank reg _ fits num
   slot_given (V bank) (register reg) p fits =
-      let v : number_of (operand_at names_v slots operands) ≡ reg.num = ap number_of (found names_v (V bank) (register reg) slots operands one_v p refl) in
+      let v : number_of (operand_of_kind names_v slots operands) ≡ reg.num = ap number_of (found names_v (V bank) (register reg) slots operands one_v p refl) in
       register_again bank reg _ fits (omega arith)
   slot_given (R4 bank) (register reg) p fits =
-      let imm : imm_of (operand_at names_imm slots operands) ≡ (16 * reg.num) % 256 = ap imm_of (found names_imm (R4 bank) (register reg) slots operands one_imm p refl) in
+      let imm : imm_of (operand_of_kind names_imm slots operands) ≡ (16 * reg.num) % 256 = ap imm_of (found names_imm (R4 bank) (register reg) slots operands one_imm p refl) in
       register_again bank reg _ fits (omega arith)
   slot_given U8 (unsigned n) p fits =
-      let imm : imm_of (operand_at names_imm slots operands) ≡ n % 256 = ap imm_of (found names_imm U8 (unsigned n) slots operands one_imm p refl) in
+      let imm : imm_of (operand_of_kind names_imm slots operands) ≡ n % 256 = ap imm_of (found names_imm U8 (unsigned n) slots operands one_imm p refl) in
       ap unsigned (omega arith)
   slot_given I8 (signed n) p fits =
-      let imm : imm_of (operand_at names_imm slots operands) ≡ cast_unsigned w8 n % 256 = ap imm_of (found names_imm I8 (signed n) slots operands one_imm p refl) in
+      let imm : imm_of (operand_of_kind names_imm slots operands) ≡ cast_unsigned w8 n % 256 = ap imm_of (found names_imm I8 (signed n) slots operands one_imm p refl) in
       ap signed (ap (cast_signed w8) imm ∙ signed_again n fits)
   slot_given (E bank) operand p fits =
       let e = found names_e (E bank) operand slots operands one_e p refl in

@@ -13,7 +13,7 @@ use Rattle.vex_forms.specs.Layout.{IsLayout}
 use Rattle.vex_forms.specs.Gives.{gives}
 use Rattle.vex_decode.specs.Fields.{Fields, fields_of, prefix_bytes}
 use Rattle.vex_decode.specs.Spelling.{bytes_of, meant, imm_bytes}
-use Rattle.vex_encode.specs.declared.operands.Numbers.{Numbers}
+use Rattle.vex_encode.specs.declared.operands.OperandFields.{OperandFields}
 use Rattle.vex_encode.specs.Standard.{candidate, standard, shortest_form}
 use Rattle.vex_encode.specs.Operands.{target_seen}
 use Rattle.vex_encode.specs.Assembly.{place_for}
@@ -24,7 +24,7 @@ form_of_candidate : (row : Row) (m : Meaning) → (candidate row m).form ≡ sho
 unfolding candidate
 form_of_candidate row m = refl
 
-module _ (row : Row) (layout : RowLayout) (m : Meaning) (prefix : Prefix) (numbers : Numbers)
+module _ (row : Row) (layout : RowLayout) (m : Meaning) (prefix : Prefix) (numbers : OperandFields)
     (is : IsLayout row layout) (made : IsCandidate row m prefix numbers) (same_r : numbers.r ≡ prefix.r) (same_v : numbers.vvvv ≡ prefix.vvvv) where
   -- the meaning that the code gives
   pub meaning_made : gives row (bit numbers.r) numbers.vvvv numbers.reg (target_seen numbers.register) numbers.imm ≡ meant row (candidate row m)

@@ -29,7 +29,7 @@ use Rattle.vex_forms.proofs.Sound.{sound_row, v_rule-zero}
 use Rattle.vex_decode.specs.Fields.{Fields, PrefixForm, C4, C5, FitsTwoBytes, CanSay, prefix_bytes}
 use Rattle.vex_decode.specs.Spelling.{Syntax, imm_bytes, bytes_of, meant, FitsRule, FitsGroup, FitsReg, FitsImm, IsSyntax, SpellsBy}
 use Rattle.vex_decode.proofs.Form.{alone_form}
-use Rattle.vex_encode.specs.Standard.{operand_at, number_of, imm_of, target_of, fits_two_bytes, shortest_form, fields_for, reg_for, candidate, standard}
+use Rattle.vex_encode.specs.Standard.{operand_of_kind, number_of, imm_of, target_of, fits_two_bytes, shortest_form, fields_for, reg_for, candidate, standard}
 use Rattle.vex_encode.proofs.Candidate.{first_or_none, no_operand, e_given, map_same, slot_again}
 
 -- a form of prefix is chosen only where it can say the fields
@@ -148,9 +148,9 @@ module _ (row : Row) (m : Meaning) (is_row : IsRow row) where
   unfolding candidate slots has_imm
   candidate_is =
       let operands = m.operands in
-      let g = number_of (operand_at names_g (slots row) operands) in
-      let v = number_of (operand_at names_v (slots row) operands) in
-      let e = target_of row.kind (operand_at names_e (slots row) operands) in
+      let g = number_of (operand_of_kind names_g (slots row) operands) in
+      let v = number_of (operand_of_kind names_v (slots row) operands) in
+      let e = target_of row.kind (operand_of_kind names_e (slots row) operands) in
       let sound = sound_row row in
       record {
         prefix = record { l = chosen.one_bit; r = omega arith; v = omega arith; can_say = can_say (fields_for row g v e) };
@@ -160,10 +160,10 @@ module _ (row : Row) (m : Meaning) (is_row : IsRow row) where
         l = refl;
         reg = reg_fits (steps row.entry.form).modrm row row.group g chosen.group (λ alone. (ap number_of (no_operand names_g (slots row) operands (or_false _ _ sound.alone alone)), group_alone row chosen alone));
         place = is_place-shortest e;
-        kind = kind_of-shortest e ∙ kind_asked row.kind (operand_at names_e (slots row) operands);
+        kind = kind_of-shortest e ∙ kind_asked row.kind (operand_of_kind names_e (slots row) operands);
         group = group_fits row.group g;
         v = rule_fits (v_rule row) v (λ zero. ap number_of (no_operand names_v (slots row) operands (v_rule-zero row zero).0));
-        imm = imm_fits (steps row.entry.form).imm (operand_at names_imm (slots row) operands) (λ none. no_operand names_imm (slots row) operands (no_immediates (slots row) (few_by _ _ sound.immediates none)));
+        imm = imm_fits (steps row.entry.form).imm (operand_of_kind names_imm (slots row) operands) (λ none. no_operand names_imm (slots row) operands (no_immediates (slots row) (few_by _ _ sound.immediates none)));
       }
 
 pub reg_below : (modrm : Bool) (reg : ℕ) → FitsReg modrm reg → reg < 8
@@ -207,7 +207,7 @@ module _ (row : Row) (m : Meaning) (is_row : IsRow row) where
 -- what the parts that are put together ask of the place of E: what was read, or nothing
 asked : (row : Row) (s : Syntax) → IsSyntax row s →
     let operands = map (slot_operand (index_bank row) s.fields.r s.fields.v s.reg (target s.place s.fields.x s.fields.b) s.imm) (slots row) in
-    (target_of row.kind (operand_at names_e (slots row) operands) ≡ target s.place s.fields.x s.fields.b) ⊎ (operand_at names_e (slots row) operands ≡ nothing)
+    (target_of row.kind (operand_of_kind names_e (slots row) operands) ≡ target s.place s.fields.x s.fields.b) ⊎ (operand_of_kind names_e (slots row) operands ≡ nothing)
 asked row s is =
     elim (first_or_none names_e (slot_operand (index_bank row) s.fields.r s.fields.v s.reg (target s.place s.fields.x s.fields.b) s.imm) (slots row)) [
       | inl first ↦ inl (ap (target_of row.kind) first.operand ∙ e_given (index_bank row) s.fields.r s.fields.v s.reg (target s.place s.fields.x s.fields.b) s.imm row.kind first.slot first.passes (kind_of_target-target s.place s.fields.x s.fields.b ∙ is.kind))

@@ -1,3 +1,4 @@
+-- Private functions alone cite what stands here.
 use Rattle.std.specs.Prelude.{◌≡◌, ◌/◌, ◌%◌, ◌==◌, ◌&&◌, ℕ, Bool, false, Option, Some, None, unwrap_or, if◌then◌else◌}
 use Rattle.x86_operand.specs.Meaning.{Meaning}
 use Rattle.x86_address.specs.Place.{Place, NoPlace, Direct}
@@ -6,12 +7,12 @@ use Rattle.vex_rows.specs.declared.key.Prefix.{Prefix}
 use Rattle.vex_forms.specs.declared.row_layout.RowLayout.{RowLayout}
 use Rattle.vex_forms.specs.declared.slot.Slot.{Slot}
 use Rattle.vex_forms.specs.Slots.{names_g, names_v, names_e, names_imm}
-use Rattle.vex_encode.specs.declared.operands.Numbers.{Numbers}
+use Rattle.vex_encode.specs.declared.operands.OperandFields.{OperandFields}
 use Rattle.vex_encode.specs.declared.slot_kind.SlotKind.{SlotKind}
 use Rattle.vex_encode.specs.declared.slot_kind.SlotKind.TheVariants as kind
-use Rattle.vex_encode.specs.Standard.{operand_at, number_of, imm_of}
+use Rattle.vex_encode.specs.Standard.{operand_of_kind, number_of, imm_of}
 
--- the slots of a kind
+-- whether a slot is of the kind
 abbrev pub names : SlotKind → Slot → Bool
 names kind.G slot = names_g slot
 names kind.V slot = names_v slot
@@ -23,21 +24,24 @@ abbrev pub place_for : Option ℕ → Place
 place_for None = NoPlace
 place_for (Some n) = Direct (n % 8)
 
--- the numbers that the operands at the slots of a row have
+-- the number that the operand at the slot of the field reg has
 abbrev pub g_of : RowLayout → Meaning → ℕ
-g_of layout m = number_of (operand_at names_g layout.slots.items m.operands)
+g_of layout m = number_of (operand_of_kind names_g layout.slots.items m.operands)
 
+-- that of the slot of vvvv
 abbrev pub v_of : RowLayout → Meaning → ℕ
-v_of layout m = number_of (operand_at names_v layout.slots.items m.operands)
+v_of layout m = number_of (operand_of_kind names_v layout.slots.items m.operands)
 
+-- that of the slot of E
 abbrev pub e_of : RowLayout → Meaning → ℕ
-e_of layout m = number_of (operand_at names_e layout.slots.items m.operands)
+e_of layout m = number_of (operand_of_kind names_e layout.slots.items m.operands)
 
+-- that of the slot that reads the immediate byte
 abbrev pub immediate_of : RowLayout → Meaning → ℕ
-immediate_of layout m = imm_of (operand_at names_imm layout.slots.items m.operands)
+immediate_of layout m = imm_of (operand_of_kind names_imm layout.slots.items m.operands)
 
 -- the prefix and the numbers that are put together for a meaning, by the layout of a row of registers
-pub record Assembles (entry : Entry) (w l : Bool) (layout : RowLayout) (m : Meaning) (prefix : Prefix) (numbers : Numbers) : Type 0 where
+pub record Assembles (entry : Entry) (w l : Bool) (layout : RowLayout) (m : Meaning) (prefix : Prefix) (numbers : OperandFields) : Type 0 where
   pub map : prefix.map ≡ entry.map
   pub pp : prefix.pp ≡ entry.pp
   pub w_is : prefix.w ≡ w

@@ -24,19 +24,19 @@ abbrev pub instruction_pointer : Register
 instruction_pointer = record { bank = RIP; num = 0 }
 
 -- there is no base, or one of bank Q, or it is the instruction pointer, and then there is no index
-abbrev pub BaseFits : Option Register → Option Index → Type 0
-BaseFits None index = Unit {0}
-BaseFits (Some base) index = RegisterFits Q base ⊎ ((base ≡ instruction_pointer) × (index ≡ None))
+abbrev pub SlotBaseFits : Option Register → Option Index → Type 0
+SlotBaseFits None index = Unit {0}
+SlotBaseFits (Some base) index = RegisterFits Q base ⊎ ((base ≡ instruction_pointer) × (index ≡ None))
 
 -- there is no index, or one of this bank, whose number isn't 4, with a scale of 1, 2, 4 or 8
-abbrev pub IndexFits : RegisterBank → Option Index → Type 0
-IndexFits bank None = Unit {0}
-IndexFits bank (Some index) = RegisterFits bank index.reg × (index.reg.num ≢ 4) × IsScale index.scale
+abbrev pub SlotIndexFits : RegisterBank → Option Index → Type 0
+SlotIndexFits bank None = Unit {0}
+SlotIndexFits bank (Some index) = RegisterFits bank index.reg × (index.reg.num ≢ 4) × IsScale index.scale
 
 -- base and index fit, and the displacement has 32 bits
 pub record AddressFits (index_bank : RegisterBank) (address : Address) : Type 0 where
-  pub base : BaseFits address.base address.index
-  pub index : IndexFits index_bank address.index
+  pub base : SlotBaseFits address.base address.index
+  pub index : SlotIndexFits index_bank address.index
   pub disp : FitsSigned w32 address.disp
 
 -- an operand fits the slot E: a register in a register row, an address in a memory row

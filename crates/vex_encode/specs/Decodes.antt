@@ -1,3 +1,4 @@
+-- Private functions alone cite what stands here.
 use Rattle.std.specs.Prelude.{◌≡◌, ◌-◌, ℕ, List, length, Result, Ok, Err}
 use Rattle.x86_operand.specs.declared.error.DecodeError.{DecodeError}
 use Rattle.x86_operand.specs.Meaning.{Decoded}
@@ -5,13 +6,13 @@ use Rattle.x86_address.specs.Place.{target}
 use Rattle.x86_address.specs.Reading.{Reading}
 use Rattle.vex_rows.specs.Row.{Row}
 use Rattle.vex_decode.specs.Spelling.{Syntax, meant}
-use Rattle.vex_encode.specs.declared.operands.Numbers.{Numbers}
+use Rattle.vex_encode.specs.declared.operands.OperandFields.{OperandFields}
 use Rattle.vex_encode.specs.declared.walk.InstructionParts.{InstructionParts}
 use Rattle.vex_encode.specs.Form.{place_seen}
 use Rattle.vex_encode.specs.Operands.{target_seen}
 
 -- what the slots take their operands from, by the parts that were read
-pub record IsNumbersOf (parts : InstructionParts) (numbers : Numbers) : Type 0 where
+pub record IsNumbersOf (parts : InstructionParts) (numbers : OperandFields) : Type 0 where
   pub r : numbers.r ≡ parts.prefix.r
   pub vvvv : numbers.vvvv ≡ parts.prefix.vvvv
   pub reg : numbers.reg ≡ parts.form.reg
@@ -28,6 +29,6 @@ pub record DecodesAs (bytes : List ℕ) (reading : Reading (Row × Syntax)) (dec
   pub len : decoded.len ≡ length bytes - length rest
 
 -- a decode answers what the walk over the bytes answers
-abbrev pub Decodes : List ℕ → Result Decoded DecodeError → Reading (Row × Syntax) → Type 0
-Decodes bytes (Ok decoded) reading = DecodesAs bytes reading decoded
-Decodes bytes (Err error) reading = (rest : List ℕ) × (reading ≡ Err (error, rest))
+abbrev pub DecodesWithoutSettings : List ℕ → Result Decoded DecodeError → Reading (Row × Syntax) → Type 0
+DecodesWithoutSettings bytes (Ok decoded) reading = DecodesAs bytes reading decoded
+DecodesWithoutSettings bytes (Err error) reading = (rest : List ℕ) × (reading ≡ Err (error, rest))

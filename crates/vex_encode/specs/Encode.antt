@@ -1,3 +1,4 @@
+-- Private functions alone cite what stands here.
 use Rattle.std.specs.Prelude.{ℕ, List, filter, Option, Some, None, if◌then◌else◌}
 use Rattle.x86_operand.specs.Meaning.{Meaning}
 use Rattle.vex_rows.specs.Row.{Row, exists}

@@ -1,3 +1,4 @@
+-- Private functions alone cite what stands here.
 use Rattle.std.specs.Prelude.{◌≡◌, ◌<◌, ◌≤◌, ◌+◌, ℕ, List, length, false, true}
 use Rattle.std.specs.Option.{ForSome}
 use Rattle.vex_rows.specs.Table.{table}

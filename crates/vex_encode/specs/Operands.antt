@@ -1,3 +1,4 @@
+-- Private functions alone cite what stands here.
 use Rattle.std.specs.Prelude.{ℕ, Bool, true, false, List, Option, Some, None}
 use Rattle.std.specs.List.{list_all}
 use Rattle.x86_operand.specs.declared.register.RegisterBank.{RegisterBank}
@@ -6,12 +7,12 @@ use Rattle.x86_address.specs.Place.{Target, NoTarget, Number}
 use Rattle.vex_forms.specs.declared.slot.Slot.{Slot}
 use Rattle.vex_forms.specs.declared.slot.Slot.TheVariants.{G, V, E, U8, I8, R4}
 
--- whether a bank has sixteen registers
+-- whether a bank has at least sixteen registers
 abbrev pub has_sixteen : RegisterBank → Bool
 has_sixteen RIP = false
 has_sixteen _ = true
 
--- whether the bank of a slot has sixteen registers, where it has a bank
+-- whether the bank of a slot has at least sixteen registers, where it has a bank
 abbrev pub slot_fits : Slot → Bool
 slot_fits (G bank) = has_sixteen bank
 slot_fits (V bank) = has_sixteen bank
@@ -20,6 +21,7 @@ slot_fits (R4 bank) = has_sixteen bank
 slot_fits U8 = true
 slot_fits I8 = true
 
+-- whether all slots do so
 abbrev pub slots_fit : List Slot → Bool
 slots_fit slots = list_all slot_fits slots
 

@@ -13,10 +13,10 @@ use Rattle.vex_decode.specs.Fields.{Fields, PrefixForm, C4, C5}
 use Rattle.vex_decode.specs.Spelling.{Syntax, bytes_of, meant}
 
 -- the operand at the first slot of a kind, nothing where there is none
-abbrev pub operand_at : (Slot → Bool) → List Slot → List OperandMeaning → OperandMeaning
-operand_at is [] operands = nothing
-operand_at is (slot ∷ slots) [] = nothing
-operand_at is (slot ∷ slots) (operand ∷ operands) = if is slot then operand else operand_at is slots operands
+abbrev pub operand_of_kind : (Slot → Bool) → List Slot → List OperandMeaning → OperandMeaning
+operand_of_kind is [] operands = nothing
+operand_of_kind is (slot ∷ slots) [] = nothing
+operand_of_kind is (slot ∷ slots) (operand ∷ operands) = if is slot then operand else operand_of_kind is slots operands
 
 -- the number of a register, 0 of all else
 abbrev pub number_of : OperandMeaning → ℕ
@@ -41,10 +41,11 @@ target_of InRegister operand = Number (number_of operand)
 target_of InMemory (memory address) = At (plain address)
 target_of InMemory _ = At (record { base = Numbered 0; index = None; disp = pos 0 })
 
--- whether the two-byte prefix can say the fields: map 0F, and W, X and B are 0
+-- whether the two-byte prefix can say the fields: map 0F, and W, X and B are 0 (Intel SDM volume 2, section 2.3.5)
 abbrev pub fits_two_bytes : Fields → Bool
 fits_two_bytes f = map_number f.map == 1 && not f.w && not f.x && not f.b
 
+-- the form of the shortest prefix that can say the fields
 abbrev pub shortest_form : Fields → PrefixForm
 shortest_form f = if fits_two_bytes f then C5 else C4
 
@@ -80,11 +81,11 @@ assembled row g v e imm = record {
 unfoldable pub candidate : Row → Meaning → Syntax
 candidate row m =
     assembled row
-    (number_of (operand_at names_g (slots row) m.operands))
-    (number_of (operand_at names_v (slots row) m.operands))
-    (target_of row.kind (operand_at names_e (slots row) m.operands))
-    (imm_of (operand_at names_imm (slots row) m.operands))
+    (number_of (operand_of_kind names_g (slots row) m.operands))
+    (number_of (operand_of_kind names_v (slots row) m.operands))
+    (target_of row.kind (operand_of_kind names_e (slots row) m.operands))
+    (imm_of (operand_of_kind names_imm (slots row) m.operands))
 
--- the standard bytes of a meaning by a row; none where the row can't give it
+-- the standard bytes of a meaning by a row; none where the row can't give it, which `CanGive` says by conditions
 unfoldable pub standard : Row → Meaning → Option (List ℕ)
 standard row m = if same_meaning (meant row (candidate row m)) m then Some (bytes_of row (candidate row m)) else None

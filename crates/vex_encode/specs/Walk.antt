@@ -1,3 +1,4 @@
+-- Private functions alone cite what stands here.
 use Rattle.std.specs.Prelude.{◌≡◌, ℕ, List, Result, Ok, Err}
 use Rattle.std.specs.Borrow.{Bor}
 use Rattle.x86_operand.specs.declared.error.DecodeError.{DecodeError}

@@ -4,7 +4,7 @@ ghost use Rattle.std.specs.Prelude.{◌≡◌, ◌≤◌, ◌<◌, length};
 ghost use Rattle.std.specs.Option.{ForSome};
 ghost use Rattle.vex_encode.specs.Assembly.{Assembles};
 
-use crate::operands::Numbers;
+use crate::operands::OperandFields;
 use crate::slot_kind::{SlotKind, imm_of, number_of, operand_of};
 use vex_forms::RowLayout;
 use vex_rows::{Entry, Prefix};
@@ -18,7 +18,7 @@ pub fn assemble(
     l: bool,
     layout: &RowLayout,
     instruction: &Instruction,
-) -> (Prefix, Numbers)
+) -> (Prefix, OperandFields)
     requires { ForSome layout.now.group (λ group. group < 8) }
     ensures { Assembles entry.now w l layout.now instruction.now.meaning result.0 result.1 }
 {
@@ -27,6 +27,8 @@ pub fn assemble(
     let v = number_of(operand_of(SlotKind::V, slots, instruction));
     let e = number_of(operand_of(SlotKind::E, slots, instruction));
     let imm = imm_of(operand_of(SlotKind::Immediate, slots, instruction));
+    // A number may be up to 31. The fields keep its low four bits, which then name another register, so that what is
+    // spelled isn't what was given.
     let prefix = Prefix {
         map: entry.map,
         pp: entry.pp,
@@ -37,7 +39,7 @@ pub fn assemble(
         b: layout.has_modrm && e / 8 % 2 == 1,
         vvvv: v % 16,
     };
-    let numbers = Numbers {
+    let numbers = OperandFields {
         r: prefix.r,
         vvvv: prefix.vvvv,
         reg: layout.group.unwrap_or(g % 8),

@@ -1,22 +1,22 @@
 //! Reading the instruction at the front of a slice, but for the settings.
 
 ghost use Rattle.vex_decode.specs.Walk.{walk};
-ghost use Rattle.vex_encode.specs.Decodes.{Decodes, IsNumbersOf};
+ghost use Rattle.vex_encode.specs.Decodes.{DecodesWithoutSettings, IsNumbersOf};
 ghost use Rattle.vex_encode.specs.Facts.{ChooseRow};
 
 use crate::instruction::instruction_of;
-use crate::operands::Numbers;
+use crate::operands::OperandFields;
 use crate::walk::{InstructionParts, read_row};
 use vex_forms::layout;
 use x86_operand::{DecodeError, Instruction};
 
 /// What the slots of the chosen row take their operands from.
-fn numbers_of(parts: &InstructionParts) -> Numbers
+fn numbers_of(parts: &InstructionParts) -> OperandFields
     requires { ChooseRow parts.now }
     ensures { IsNumbersOf parts.now result }
 {
     let upper = if parts.prefix.b { 8 } else { 0 };
-    Numbers {
+    OperandFields {
         r: parts.prefix.r,
         vvvv: parts.prefix.vvvv,
         reg: parts.form.reg,
@@ -27,13 +27,14 @@ fn numbers_of(parts: &InstructionParts) -> Numbers
 
 /// The instruction at the front of the bytes, with the number of bytes that spell it.
 pub fn decode(bytes: &[u8]) -> Result<Instruction, DecodeError>
-    ensures { Decodes bytes.now result (walk bytes.now) }
+    ensures { DecodesWithoutSettings bytes.now result (walk bytes.now) }
 {
     let (parts, rest) = read_row(bytes)?;
     let prefix = &parts.prefix;
     match layout(&parts.entry, prefix.w, prefix.l, false, parts.form.reg) {
         Some(layout) => {
             let mut instruction = instruction_of(&layout, &numbers_of(&parts));
+            // At most 11.
             instruction.set_len((bytes.len() - rest.len()) as u8);
             Ok(instruction)
         }

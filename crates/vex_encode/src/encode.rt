@@ -51,15 +51,15 @@ fn standard_by_entry(entry: &Entry, instruction: &Instruction) -> Option<Spellin
     requires { Among entry.now table }
     ensures { result ≡ best instruction.now.meaning (choices entry.now) }
 {
-    let narrow = shorter(
+    let with_w0 = shorter(
         standard(entry, false, false, instruction),
         standard(entry, false, true, instruction),
     );
-    let wide = shorter(
+    let with_w1 = shorter(
         standard(entry, true, false, instruction),
         standard(entry, true, true, instruction),
     );
-    shorter(narrow, wide)
+    shorter(with_w0, with_w1)
 }
 
 /// The canonical bytes of an instruction's meaning, `None` exactly where no bytes spell it. The length that the

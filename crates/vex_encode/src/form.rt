@@ -88,7 +88,7 @@ fn do_checks(
     Ok(())
 }
 
-/// The kind of operand that ModRM says.
+/// The kind of operand that the field mod of ModRM says: a register with 3 (Intel SDM volume 2, section 2.1.3).
 fn kind_of(modrm: u8) -> Kind
     ensures { kind_seen result ≡ kind_of_mod (modrm / 64) }
 {

@@ -7,12 +7,12 @@ ghost use Rattle.vex_forms.specs.Layout.{IsLayout};
 ghost use Rattle.vex_forms.specs.Gives.{gives};
 ghost use Rattle.vex_encode.specs.Operands.{slots_fit, target_seen};
 
-use crate::operands::{Numbers, operands};
+use crate::operands::{OperandFields, operands};
 use vex_forms::RowLayout;
 use x86_operand::Instruction;
 
 /// What a row means with these numbers, with length 0.
-pub fn instruction_of(layout: &RowLayout, numbers: &Numbers) -> Instruction
+pub fn instruction_of(layout: &RowLayout, numbers: &OperandFields) -> Instruction
     requires { slots_fit layout.now.slots.items ≡ true }
     ensures { (row : Row) → IsLayout row layout.now → result.meaning
         ≡ gives row (bit numbers.now.r) numbers.now.vvvv numbers.now.reg (target_seen numbers.now.register) numbers.now.imm }

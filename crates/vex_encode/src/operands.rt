@@ -13,7 +13,7 @@ use x86_operand::{Operand, RegSpec, RegisterBank};
 
 /// What the slots take their operands from.
 #[derive(Clone, Copy, Debug)]
-pub struct Numbers {
+pub struct OperandFields {
     /// The prefix bit R.
     pub r: bool,
     /// The field vvvv, below 16.
@@ -42,7 +42,7 @@ fn register(bank: RegisterBank, num: u8) -> Operand
 }
 
 /// The operand that a slot names.
-fn operand(slot: Slot, numbers: &Numbers) -> Operand
+fn operand(slot: Slot, numbers: &OperandFields) -> Operand
     requires { slot_fits slot ≡ true }
     ensures { (index_bank : RegisterBank) → operand_meaning result ≡ slot_operand index_bank (bit numbers.now.r) numbers.now.vvvv numbers.now.reg (target_seen numbers.now.register) numbers.now.imm slot }
 {
@@ -63,7 +63,7 @@ fn operand(slot: Slot, numbers: &Numbers) -> Operand
 }
 
 /// The operands that the slots name, in order, and `Nothing` after them.
-pub fn operands(slots: &[Slot], numbers: &Numbers) -> [Operand; 4]
+pub fn operands(slots: &[Slot], numbers: &OperandFields) -> [Operand; 4]
     requires fit { slots_fit slots.now ≡ true }
     requires few { length slots.now ≤ 4 }
     ensures { (index_bank : RegisterBank) → map operand_meaning (take (length slots.now) result)

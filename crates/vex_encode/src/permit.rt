@@ -25,7 +25,7 @@ fn holds(settings: &InstDecoder, condition: Condition) -> bool
         Condition::Sha => settings.sha(),
         Condition::Sgx => settings.sgx(),
         Condition::Movbe => settings.movbe(),
-        Condition::Popcnt => { settings.popcnt() || settings.intel_quirks() && settings.sse4_2() }
+        Condition::Popcnt => { settings.popcnt() || (settings.intel_quirks() && settings.sse4_2()) }
         Condition::Lzcnt => settings.lzcnt() && (!settings.amd_quirks() || settings.abm()),
         Condition::Adx => settings.adx(),
         Condition::Svm => settings.svm(),

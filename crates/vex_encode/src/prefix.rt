@@ -1,4 +1,4 @@
-//! Reading a VEX prefix (Intel SDM volume 2, section 2.3.5).
+//! Reading a VEX prefix (Intel SDM volume 2, sections 2.3.5 and 2.3.6).
 
 ghost use Rattle.std.specs.Prelude.{◌≡◌, ◌==◌, ◌<◌, ◌%◌, ◌/◌, ◌^◌};
 ghost use Rattle.vex_decode.specs.Fields.{PrefixForm, C4, C5, fields_of};
@@ -9,13 +9,13 @@ use crate::bytes::first_byte;
 use vex_rows::{Map, Pp, Prefix};
 use x86_operand::DecodeError;
 
-/// The first byte of a two-byte prefix.
-const TWO_BYTES: u8 = 0xC5;
+/// The first byte of a two-byte prefix (section 2.3.5.1).
+pub const TWO_BYTES: u8 = 0xC5;
 
 /// The first byte of a three-byte prefix.
-const THREE_BYTES: u8 = 0xC4;
+pub const THREE_BYTES: u8 = 0xC4;
 
-/// The implied prefix of the low two bits.
+/// The implied prefix of the low two bits (section 2.3.6.3).
 fn implied_prefix(byte: u8) -> Pp
     ensures { result ≡ pp_of (byte % 4) }
 {
@@ -27,7 +27,7 @@ fn implied_prefix(byte: u8) -> Pp
     }
 }
 
-/// The opcode map of the low five bits.
+/// The opcode map of the low five bits (section 2.3.6.1), `None` where their number isn't 1, 2 or 3.
 fn opcode_map(byte: u8) -> Option<Map>
     ensures { result ≡ map_of (byte % 32) }
 {
@@ -44,7 +44,7 @@ fn is_set(byte: u8, bit: u8) -> bool
     requires { bit < 8 }
     ensures { result ≡ ((byte / 2 ^ bit) % 2 == 1) }
 {
-    byte >> bit & 1 == 1
+    (byte >> bit) & 1 == 1
 }
 
 /// The fields of a two-byte prefix.

@@ -28,10 +28,10 @@ fn recode_all(decoder: &InstDecoder, bytes: &[u8]) -> Result<(Instruction, Spell
     }
 }
 
-/// Decodes the instruction at the front of the bytes, and answers it with the canonical bytes of its meaning. Later
-/// bytes play no part.
+/// Decodes the instruction at the front of the bytes (Intel SDM volume 2, section 2.3), and answers it, with the number
+/// of bytes that spell it, 3 to 11, and the canonical bytes of its meaning. Later bytes play no part.
 ///
-/// The error is that of the first step that fails: `Outside` where the first byte is neither C4 nor C5,
+/// The error is that of the first step that fails: `Outside` where the first byte is there and is neither C4 nor C5,
 /// `ExhaustedInput` where a byte that is read isn't there, `InvalidOpcode` where the map number or the look-up or a
 /// group refuses, or the settings do, and `InvalidOperand` where vvvv, L or the kind of operand does.
 pub fn recode(decoder: &InstDecoder, bytes: &[u8]) -> Result<(Instruction, Spelling), DecodeError>

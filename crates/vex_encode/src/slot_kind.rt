@@ -3,7 +3,7 @@
 ghost use Rattle.std.specs.Prelude.{◌≡◌, ◌≤◌, length};
 ghost use Rattle.x86_operand.specs.Meaning.{operand_meaning};
 ghost use Rattle.vex_encode.specs.Assembly.{names};
-ghost use Rattle.vex_encode.specs.Standard.{operand_at, number_of, imm_of};
+ghost use Rattle.vex_encode.specs.Standard.{operand_of_kind, number_of, imm_of};
 
 use vex_forms::Slot;
 use x86_operand::{Instruction, Operand};
@@ -38,7 +38,7 @@ impl SlotKind {
 /// The operand at the first slot of a kind, `Nothing` where there is none.
 pub fn operand_of(kind: SlotKind, slots: &[Slot], instruction: &Instruction) -> Operand
     requires { length slots.now ≤ 4 }
-    ensures { operand_meaning result ≡ operand_at (names kind) slots.now instruction.now.meaning.operands }
+    ensures { operand_meaning result ≡ operand_of_kind (names kind) slots.now instruction.now.meaning.operands }
 {
     for (i, slot) in slots.iter().enumerate() {
         if kind.names(*slot) {
@@ -62,7 +62,7 @@ pub fn number_of(operand: Operand) -> u8
     }
 }
 
-/// The immediate byte of an operand: its value's low eight bits, or 16 times a register's number.
+/// The immediate byte of an operand: its value's low eight bits, 16 times a register's number, or 0 of all else.
 pub fn imm_of(operand: Operand) -> u8
     ensures { result ≡ imm_of (operand_meaning operand) }
 {

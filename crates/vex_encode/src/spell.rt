@@ -1,4 +1,4 @@
-//! Writing the bytes of a spelling.
+//! Writing the bytes of a spelling (Intel SDM volume 2, sections 2.3.5 to 2.3.9).
 
 ghost use Rattle.std.specs.Prelude.{◌≡◌, ◌<◌, ◌≤◌, ◌+◌, ◌*◌, ◌-◌, ◌++◌, ◌∷◌, length};
 ghost use Rattle.x86_address.specs.Bytes.{bit};
@@ -9,7 +9,8 @@ ghost use Rattle.vex_decode.specs.Spelling.{imm_bytes};
 ghost use Rattle.vex_encode.specs.Standard.{fits_two_bytes, shortest_form};
 ghost use Rattle.vex_encode.specs.Assembly.{place_for};
 
-use crate::operands::Numbers;
+use crate::operands::OperandFields;
+use crate::prefix::{THREE_BYTES, TWO_BYTES};
 use crate::spelling::Spelling;
 use vex_rows::{Map, Pp, Prefix};
 
@@ -62,10 +63,10 @@ fn prefix_spelling(prefix: &Prefix) -> Spelling
     let mut spelling = Spelling::new();
     let low = low_byte(prefix);
     if fits_two_bytes(prefix) {
-        spelling.push(0xC5);
+        spelling.push(TWO_BYTES);
         spelling.push(128 * u8::from(!prefix.r) + low);
     } else {
-        spelling.push(0xC4);
+        spelling.push(THREE_BYTES);
         let high = 128 * u8::from(!prefix.r) + 64 * u8::from(!prefix.x) + 32 * u8::from(!prefix.b);
         spelling.push(high + map_number(prefix.map));
         spelling.push(128 * u8::from(prefix.w) + low);
@@ -74,7 +75,7 @@ fn prefix_spelling(prefix: &Prefix) -> Spelling
 }
 
 /// The bytes of a spelling: prefix, opcode byte, ModRM where there is a register, and the immediate where there is one.
-pub fn spell(prefix: &Prefix, byte: u8, numbers: &Numbers, has_imm: bool) -> Spelling
+pub fn spell(prefix: &Prefix, byte: u8, numbers: &OperandFields, has_imm: bool) -> Spelling
     requires { prefix.now.vvvv < 16 }
     ensures { result ≡ prefix_bytes (shortest_form (fields_of prefix.now)) (fields_of prefix.now)
         ++ byte ∷ (place_bytes numbers.now.reg (place_for numbers.now.register) ++ imm_bytes has_imm numbers.now.imm) }

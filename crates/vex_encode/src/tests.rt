@@ -1,4 +1,4 @@
-//! What no clause says: instructions and errors of given bytes, as the manual's tables have them.
+//! What no clause says: the instructions and the errors of given bytes.
 
 use crate::recode;
 use std::process::Abort;

@@ -24,6 +24,7 @@ pub record IsChoice (row : Row) : Type 0 where
   pub row_is : row ≡ row_for row.entry row.w l memory group
   pub may_be : may_be row.entry memory ≡ true
 
+-- every row is a choice of its entry
 abbrev pub RowsAreChoices : Type 0
 RowsAreChoices = (row : Row) → IsRow row → IsChoice row
 

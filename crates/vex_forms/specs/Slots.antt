@@ -120,11 +120,12 @@ slots_of G_ExyL_V_xyLmm row = G (gather_bank row.l row.entry.opcode) ∷ E (gath
 unfoldable pub slots : Row → List Slot
 slots row = slots_of row.entry.form row
 
--- the bank of the index of an address: a vector register where a form gathers (SDM volume 2, section 2.3.12)
+-- the bank of the index of an address: a vector register where a form gathers (Intel SDM volume 2, section 2.3.12)
 abbrev pub index_bank_of : Form → Row → RegisterBank
 index_bank_of G_ExyL_V_xyLmm row = gather_index_bank row.l row.entry.opcode
 index_bank_of _ row = Q
 
+-- the bank of the index of a row's address
 unfoldable pub index_bank : Row → RegisterBank
 index_bank row = index_bank_of row.entry.form row
 
@@ -300,19 +301,22 @@ register_size _ = None
 unfoldable pub size_of : Row → Option ℕ
 size_of row = if is_memory row.kind then memory_size row.entry.form row else register_size row.entry.form
 
--- which slot a slot is: that of the field reg, of vvvv, of the operand E, or one that reads the immediate byte
+-- whether a slot is that of the field reg
 abbrev pub names_g : Slot → Bool
 names_g (G bank) = true
 names_g _ = false
 
+-- whether a slot is that of vvvv
 abbrev pub names_v : Slot → Bool
 names_v (V bank) = true
 names_v _ = false
 
+-- whether a slot is that of the operand E
 abbrev pub names_e : Slot → Bool
 names_e (E bank) = true
 names_e _ = false
 
+-- whether a slot reads the immediate byte
 abbrev pub names_imm : Slot → Bool
 names_imm U8 = true
 names_imm I8 = true
@@ -325,7 +329,7 @@ demands_v kind V0 = true
 demands_v kind VifMem = is_memory kind
 demands_v kind _ = false
 
--- what a row asks of vvvv: it names an operand, or it is 0 since a step demands it, or it plays no part (SDM volume 2,
+-- what a row asks of vvvv: it names an operand, or it is 0 since a step demands it, or it plays no part (Intel SDM volume 2,
 -- section 2.3.5.6)
 unfoldable pub v_rule : Row → VvvvRule
 v_rule row =

@@ -11,7 +11,7 @@ use vex_rows::Entry;
 use x86_operand::{MemoryAccessSize, Opcode, RegisterBank};
 
 /// What a row shows: all that is needed to read or write its operands.
-#[derive(Drop)]
+#[derive(PartialEq, Eq, Debug, Drop)]
 pub struct RowLayout {
     /// The opcode.
     pub opcode: Opcode,

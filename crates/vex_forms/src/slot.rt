@@ -13,6 +13,7 @@ pub enum Slot {
     /// 2.3.8).
     E(RegisterBank),
     /// The immediate byte, unsigned.
+    // An `ArrayVec` fills its free places with it.
     #[default]
     U8,
     /// The immediate byte, signed.

@@ -1,3 +1,5 @@
+//! What no clause says: chosen rows, as the manual has them but for what docs/DIFFERENCES.md names.
+
 use crate::Slot::{E, G, I8, R4, U8, V};
 use crate::VvvvRule::{Free, Named, Zero};
 use crate::{Slot, VvvvRule, laws, layout};
@@ -23,7 +25,7 @@ fn entry(form: Form, opcode: Opcode) -> Entry {
 type At = (bool, bool, bool, u8);
 
 #[test]
-fn rows_have_the_slots_of_the_manual(rt: HostRuntime) -> Result<(), Fail> {
+fn rows_have_their_slots(rt: HostRuntime) -> Result<(), Fail> {
     let wanted: [(
         Form,
         Opcode,

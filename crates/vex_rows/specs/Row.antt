@@ -22,17 +22,13 @@ pub record Row : Type 0 where
   pub kind : Kind
   pub group : Option ℕ
 
--- whether a kind is that of a form without ModRM, of a register, of memory
-abbrev pub is_without_modrm : Kind → Bool
-is_without_modrm WithoutModRM = true
-is_without_modrm InRegister = false
-is_without_modrm InMemory = false
-
+-- whether a kind is that of a register
 abbrev pub is_register : Kind → Bool
 is_register WithoutModRM = false
 is_register InRegister = true
 is_register InMemory = false
 
+-- whether a kind is that of an address in memory
 abbrev pub is_memory : Kind → Bool
 is_memory WithoutModRM = false
 is_memory InRegister = false
@@ -57,7 +53,7 @@ group_opcode (g ∷ gs) (Some reg) announced = if g.0 == reg then g.1 else group
 abbrev pub is_group : List (ℕ × Opcode) → ℕ → Bool
 is_group gs reg = list_any (λ g. g.0 == reg) gs
 
--- whether a row's group field is one that its form allows, none where it has no groups
+-- whether a row's group field is one that its form allows; true where the row has no group field
 abbrev pub group_allowed : Form → ℕ → Option ℕ → Bool
 group_allowed form l None = true
 group_allowed form l (Some reg) = is_group (groups form l) reg
@@ -66,7 +62,7 @@ group_allowed form l (Some reg) = is_group (groups form l) reg
 unfoldable pub has_imm : Row → Bool
 has_imm row = (steps row.entry.form).imm
 
--- whether a check refuses no spelling of the row for its kind, L or group alone
+-- whether a check allows a row's kind, L and group
 abbrev pub permits_choice : Row → Check → Bool
 permits_choice row V0 = true
 permits_choice row L0 = row.l == 0
@@ -85,7 +81,7 @@ opcode_by form row = group_opcode (groups form row.l) row.group row.entry.opcode
 unfoldable pub opcode_of : Row → Opcode
 opcode_of row = opcode_by row.entry.form row
 
--- whether a row exists: no rule and no check of its entry refuses its W, L, kind and group
+-- whether no rule and no check of its entry refuses a row's W, L, kind and group; of the choices below, those are the rows
 unfoldable pub exists : Row → Bool
 exists row =
     allows row.entry.w row.w && allows row.entry.l (row.l == 1)
@@ -103,16 +99,19 @@ group_choices form l = if has_groups form then map (λ g. Some g.0) (groups form
 abbrev pub row_at : Entry → Bool → ℕ → Kind → Option ℕ → Row
 row_at entry w l kind group = record { entry = entry; w = w; l = l; kind = kind; group = group }
 
--- all choices of an entry: by W, then L, then kind, then group
+-- all choices of an entry at one W, L and kind: by group
 abbrev pub choices_of_kind : Entry → Bool → ℕ → Kind → List Row
 choices_of_kind entry w l kind = map (row_at entry w l kind) (group_choices entry.form l)
 
+-- all choices of an entry at one W and L: by kind, then group
 abbrev pub choices_of_l : Entry → Bool → ℕ → List Row
 choices_of_l entry w l = flat_map (choices_of_kind entry w l) (kinds_of entry.form)
 
+-- all choices of an entry at one W: by L, then kind, then group
 abbrev pub choices_of_w : Entry → Bool → List Row
 choices_of_w entry w = flat_map (choices_of_l entry w) (0 ∷ 1 ∷ [])
 
+-- all choices of an entry: by W, then L, then kind, then group
 unfoldable pub choices : Entry → List Row
 choices entry = flat_map (choices_of_w entry) (false ∷ true ∷ [])
 

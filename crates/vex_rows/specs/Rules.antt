@@ -8,13 +8,13 @@ use Rattle.vex_rows.specs.declared.key.Map.TheVariants.{Map0F, Map0F38, Map0F3A}
 use Rattle.vex_rows.specs.declared.key.Pp.{Pp}
 use Rattle.vex_rows.specs.declared.key.Pp.TheVariants.{Plain, Prefix66, PrefixF3, PrefixF2}
 
--- the number of an opcode map in a three-byte prefix (SDM volume 2, section 2.3.6.1)
+-- the number of an opcode map in a three-byte prefix (Intel SDM volume 2, section 2.3.6.1)
 abbrev pub map_number : Map → ℕ
 map_number Map0F = 1
 map_number Map0F38 = 2
 map_number Map0F3A = 3
 
--- the number of an implied prefix in the field pp (SDM volume 2, section 2.3.6.3)
+-- the number of an implied prefix in the field pp (Intel SDM volume 2, section 2.3.6.3)
 abbrev pub pp_number : Pp → ℕ
 pp_number Plain = 0
 pp_number Prefix66 = 1

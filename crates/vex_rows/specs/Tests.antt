@@ -48,10 +48,12 @@ is_late_check Reg = true
 is_late_check VifMem = true
 is_late_check _ = false
 
+-- whether a check is that of a register
 abbrev pub is_register_check : Check → Bool
 is_register_check Reg = true
 is_register_check _ = false
 
+-- whether there is no check
 abbrev pub is_none : List Check → Bool
 is_none [] = true
 is_none _ = false

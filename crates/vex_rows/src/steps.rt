@@ -9,7 +9,8 @@ use crate::form::Form;
 /// `InvalidOperand` by every other.
 #[derive(Clone, Copy, PartialEq, Eq, Debug)]
 pub enum Check {
-    /// The field vvvv is 0, so that it names no operand (Intel SDM volume 2, section 2.3.5.6).
+    /// The field vvvv is 0, which stands as 1111 in the bytes, so that it names no operand (Intel SDM volume 2, section
+    /// 2.3.5.6).
     V0,
     /// The field L is 0, for vectors of 128 bits (section 2.3.6.2).
     L0,

@@ -1,3 +1,5 @@
+//! What no clause says: chosen keys, steps and groups, as the manual has them but for what docs/DIFFERENCES.md names.
+
 use crate::Check::{Group, L0, Mem, Reg, V0, VifMem};
 use crate::{Check, Form, Key, Map, Pp, entry_at, entry_count, groups_of, laws, lookup, steps_of};
 use std::test::Fail;
@@ -50,7 +52,7 @@ fn each_entry_is_found_by_its_keys(rt: HostRuntime) -> Result<(), Fail> {
 }
 
 #[test]
-fn forms_have_the_steps_of_the_manual(rt: HostRuntime) -> Result<(), Fail> {
+fn forms_have_their_steps(rt: HostRuntime) -> Result<(), Fail> {
     let wanted: [(Form, &[Check], bool, &[Check], bool, &[Check], bool); 12] = [
         (Form::Nothing, &[V0], false, &[], false, &[], false),
         (Form::VPS_72, &[], true, &[Reg, Group], false, &[], true),
@@ -78,7 +80,7 @@ fn forms_have_the_steps_of_the_manual(rt: HostRuntime) -> Result<(), Fail> {
 }
 
 #[test]
-fn forms_have_the_groups_of_the_manual(rt: HostRuntime) -> Result<(), Fail> {
+fn forms_have_their_groups(rt: HostRuntime) -> Result<(), Fail> {
     for (form, l, reg, opcode) in [
         (Form::VPS_71, false, 1, Some(Opcode::VPSLLW)),
         (Form::VPS_71, true, 1, None),

@@ -8,6 +8,6 @@ pub returns : goal.returns
 returns c =
     c.shorter.ensures
     ∙ ap₂ shorter_of
-    (c.shorter-narrow.ensures ∙ ap₂ shorter_of c.standard.ensures c.standard-2.ensures)
-    (c.shorter-wide.ensures ∙ ap₂ shorter_of c.standard-3.ensures c.standard-4.ensures)
+    (c.shorter-with_w0.ensures ∙ ap₂ shorter_of c.standard.ensures c.standard-2.ensures)
+    (c.shorter-with_w1.ensures ∙ ap₂ shorter_of c.standard-3.ensures c.standard-4.ensures)
     ∙ sym (best_of_entry c.args.instruction.now.meaning c.args.entry.now c.requires (no_groups c.args.entry.now c.requires))
