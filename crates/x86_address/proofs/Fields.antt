@@ -1,6 +1,6 @@
--- Bytes that are packed from fields: ModRM, SIB and the bytes of a word.
+-- Bytes that are packed from fields: ModRM, SIB and the bytes of a doubleword.
 use Rattle.std.proofs.Common.{◌≡◌, ℕ, ◌+◌, ◌*◌, ◌/◌, ◌%◌, ◌^◌, ◌<◌, [], ◌∷◌, arith}
-use Rattle.x86_address.specs.Bytes.{word_bytes}
+use Rattle.x86_address.specs.Bytes.{doubleword_bytes}
 
 -- the top two bits of a packed byte
 pub high_field : (m reg rm : ℕ) → reg < 8 → rm < 8 → (64 * m + 8 * reg + rm) / 64 ≡ m
@@ -34,13 +34,13 @@ high_field_below n p = omega arith
 pub low_field_below : (n : ℕ) → n % 8 < 8
 low_field_below n = omega arith
 
--- a word is the sum of its bytes
-pub word_of_bytes : (n : ℕ) → n < 2 ^ 32 → n % 256 + 256 * ((n / 256) % 256) + 65536 * ((n / 65536) % 256) + 16777216 * ((n / 16777216) % 256) ≡ n
-word_of_bytes n p = omega arith
+-- a doubleword is the sum of its bytes
+pub doubleword_of_bytes : (n : ℕ) → n < 2 ^ 32 → n % 256 + 256 * ((n / 256) % 256) + 65536 * ((n / 65536) % 256) + 16777216 * ((n / 16777216) % 256) ≡ n
+doubleword_of_bytes n p = omega arith
 
--- four bytes are those of the word that they make
-pub bytes_of_word : (a b c d : ℕ) → a < 256 → b < 256 → c < 256 → d < 256 → word_bytes (a + 256 * b + 65536 * c + 16777216 * d) ≡ a ∷ b ∷ c ∷ d ∷ []
-bytes_of_word a b c d p q r s =
+-- four bytes are those of the doubleword that they make
+pub bytes_of_doubleword : (a b c d : ℕ) → a < 256 → b < 256 → c < 256 → d < 256 → doubleword_bytes (a + 256 * b + 65536 * c + 16777216 * d) ≡ a ∷ b ∷ c ∷ d ∷ []
+bytes_of_doubleword a b c d p q r s =
     let n = a + 256 * b + 65536 * c + 16777216 * d in
     let lowest : n % 256 ≡ a = omega arith in
     let second : (n / 256) % 256 ≡ b = omega arith in

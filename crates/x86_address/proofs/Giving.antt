@@ -10,7 +10,7 @@ use Rattle.x86_operand.specs.Register.{Register}
 use Rattle.x86_address.specs.Bytes.{bit, Displacement, Short, Long, displacement_value}
 use Rattle.x86_address.specs.Place.{Place, Based, RipBased, Scaled, Baseless, index_of}
 use Rattle.x86_address.specs.Shortest.{index_register}
-use Rattle.x86_address.specs.Reading.{Reading, ◌>>=◌, take_byte, take_word, take_displacement, take_sib, take_place}
+use Rattle.x86_address.specs.Reading.{Reading, ◌>>=◌, take_byte, take_doubleword, take_displacement, take_sib, take_place}
 use Rattle.x86_address.specs.Reads.{Reads, FallsShort, NamesAddress}
 
 -- a byte is given
@@ -46,20 +46,20 @@ module _ {A B : Type 0} (step : List ℕ → Reading A) (next : A × List ℕ �
     wants = rw (one.answers short.bytes) short.wants;
   }
 
--- the four bytes of a word
-pub reads_word : {s0 s1 s2 s3 s4 : ReaderState} {a b c d : ℕ} → Takes s0 s1 (a ∷ []) → Takes s1 s2 (b ∷ []) → Takes s2 s3 (c ∷ []) → Takes s3 s4 (d ∷ []) → Reads take_word s0 s4 (a + 256 * b + 65536 * c + 16777216 * d)
-reads_word {a = a} {b = b} {c = c} {d = d} one two three four = record {
+-- the four bytes of a doubleword
+pub reads_doubleword : {s0 s1 s2 s3 s4 : ReaderState} {a b c d : ℕ} → Takes s0 s1 (a ∷ []) → Takes s1 s2 (b ∷ []) → Takes s2 s3 (c ∷ []) → Takes s3 s4 (d ∷ []) → Reads take_doubleword s0 s4 (a + 256 * b + 65536 * c + 16777216 * d)
+reads_doubleword {a = a} {b = b} {c = c} {d = d} one two three four = record {
   bytes = a ∷ b ∷ c ∷ d ∷ [];
   takes = Takes-trans one (Takes-trans two (Takes-trans three four));
   answers = λ rest. refl;
 }
 
 -- the third of them is lacking
-pub lacks_third : {s0 s1 s2 s3 : ReaderState} {a b : ℕ} → Takes s0 s1 (a ∷ []) → Takes s1 s2 (b ∷ []) → FallsShort take_byte s2 s3 → FallsShort take_word s0 s3
+pub lacks_third : {s0 s1 s2 s3 : ReaderState} {a b : ℕ} → Takes s0 s1 (a ∷ []) → Takes s1 s2 (b ∷ []) → FallsShort take_byte s2 s3 → FallsShort take_doubleword s0 s3
 lacks_third one two short = lacks_second take_byte _ (reads_byte one) (lacks_second take_byte _ (reads_byte two) (lacks_first take_byte _ short))
 
 -- the highest
-pub lacks_highest : {s0 s1 s2 s3 s4 : ReaderState} {a b c : ℕ} → Takes s0 s1 (a ∷ []) → Takes s1 s2 (b ∷ []) → Takes s2 s3 (c ∷ []) → FallsShort take_byte s3 s4 → FallsShort take_word s0 s4
+pub lacks_highest : {s0 s1 s2 s3 s4 : ReaderState} {a b c : ℕ} → Takes s0 s1 (a ∷ []) → Takes s1 s2 (b ∷ []) → Takes s2 s3 (c ∷ []) → FallsShort take_byte s3 s4 → FallsShort take_doubleword s0 s4
 lacks_highest one two three short = lacks_second take_byte _ (reads_byte one) (lacks_second take_byte _ (reads_byte two) (lacks_second take_byte _ (reads_byte three) (lacks_first take_byte _ short)))
 
 -- what holds of whatever an answer is, holds where it is wider
@@ -101,11 +101,11 @@ pub lacks_short : {mode : ℕ} {old new : ReaderState} → mode ≡ 1 → FallsS
 lacks_short {mode} one = lacks_as take_byte (take_displacement mode) Short (λ bytes. rw one refl)
 
 -- of mod 2
-pub reads_long : {mode : ℕ} {old new : ReaderState} {n : ℕ} → mode ≢ 0 → mode ≢ 1 → Reads take_word old new n → Reads (take_displacement mode) old new (Long n)
-reads_long {mode} some more = reads_as take_word (take_displacement mode) Long (λ bytes. rw (ne_eqb mode 0 some, ne_eqb mode 1 more) refl)
+pub reads_long : {mode : ℕ} {old new : ReaderState} {n : ℕ} → mode ≢ 0 → mode ≢ 1 → Reads take_doubleword old new n → Reads (take_displacement mode) old new (Long n)
+reads_long {mode} some more = reads_as take_doubleword (take_displacement mode) Long (λ bytes. rw (ne_eqb mode 0 some, ne_eqb mode 1 more) refl)
 
-pub lacks_long : {mode : ℕ} {old new : ReaderState} → mode ≢ 0 → mode ≢ 1 → FallsShort take_word old new → FallsShort (take_displacement mode) old new
-lacks_long {mode} some more = lacks_as take_word (take_displacement mode) Long (λ bytes. rw (ne_eqb mode 0 some, ne_eqb mode 1 more) refl)
+pub lacks_long : {mode : ℕ} {old new : ReaderState} → mode ≢ 0 → mode ≢ 1 → FallsShort take_doubleword old new → FallsShort (take_displacement mode) old new
+lacks_long {mode} some more = lacks_as take_doubleword (take_displacement mode) Long (λ bytes. rw (ne_eqb mode 0 some, ne_eqb mode 1 more) refl)
 
 -- a test that fails, by its parts
 not_both : (mode n : ℕ) → (mode ≢ 0) ⊎ (n ≢ 5) → (mode == 0 && n == 5) ≡ false
@@ -117,17 +117,17 @@ module _ {s0 s1 s2 : ReaderState} {mode sib : ℕ} (one : Takes s0 s1 (sib ∷ [
   reads_scaled based reads =
       reads_both take_byte _ (reads_byte one) (reads_as (take_displacement mode) _ (Scaled (sib / 64) ((sib / 8) % 8) (sib % 8)) (λ bytes. rw (not_both mode (sib % 8) based) refl) reads)
 
-  pub reads_baseless : {n : ℕ} → mode ≡ 0 → sib % 8 ≡ 5 → Reads take_word s1 s2 n → Reads (take_sib mode) s0 s2 (Baseless (sib / 64) ((sib / 8) % 8) n)
+  pub reads_baseless : {n : ℕ} → mode ≡ 0 → sib % 8 ≡ 5 → Reads take_doubleword s1 s2 n → Reads (take_sib mode) s0 s2 (Baseless (sib / 64) ((sib / 8) % 8) n)
   reads_baseless zero five reads =
-      reads_both take_byte _ (reads_byte one) (reads_as take_word _ (Baseless (sib / 64) ((sib / 8) % 8)) (λ bytes. rw (zero, five) refl) reads)
+      reads_both take_byte _ (reads_byte one) (reads_as take_doubleword _ (Baseless (sib / 64) ((sib / 8) % 8)) (λ bytes. rw (zero, five) refl) reads)
 
   pub lacks_scaled : (mode ≢ 0) ⊎ (sib % 8 ≢ 5) → FallsShort (take_displacement mode) s1 s2 → FallsShort (take_sib mode) s0 s2
   lacks_scaled based short =
       lacks_second take_byte _ (reads_byte one) (lacks_as (take_displacement mode) _ (Scaled (sib / 64) ((sib / 8) % 8) (sib % 8)) (λ bytes. rw (not_both mode (sib % 8) based) refl) short)
 
-  pub lacks_baseless : mode ≡ 0 → sib % 8 ≡ 5 → FallsShort take_word s1 s2 → FallsShort (take_sib mode) s0 s2
+  pub lacks_baseless : mode ≡ 0 → sib % 8 ≡ 5 → FallsShort take_doubleword s1 s2 → FallsShort (take_sib mode) s0 s2
   lacks_baseless zero five short =
-      lacks_second take_byte _ (reads_byte one) (lacks_as take_word _ (Baseless (sib / 64) ((sib / 8) % 8)) (λ bytes. rw (zero, five) refl) short)
+      lacks_second take_byte _ (reads_byte one) (lacks_as take_doubleword _ (Baseless (sib / 64) ((sib / 8) % 8)) (λ bytes. rw (zero, five) refl) short)
 
 -- all that follows ModRM: SIB
 module _ {mode rm : ℕ} (memory : mode < 3) where
@@ -141,14 +141,14 @@ module _ {mode rm : ℕ} (memory : mode < 3) where
   lacks_by_sib four = lacks_as (take_sib mode) (take_place mode rm) (λ place. place) (sib_follows four)
 
   -- a displacement from the instruction pointer
-  rip_follows : mode ≡ 0 → rm ≡ 5 → (bytes : List ℕ) → take_place mode rm bytes ≡ (take_word bytes >>= (λ read. Ok (RipBased read.0, read.1)))
+  rip_follows : mode ≡ 0 → rm ≡ 5 → (bytes : List ℕ) → take_place mode rm bytes ≡ (take_doubleword bytes >>= (λ read. Ok (RipBased read.0, read.1)))
   rip_follows zero five bytes = rw (zero, five) refl
 
-  pub reads_rip : {old new : ReaderState} {n : ℕ} → mode ≡ 0 → rm ≡ 5 → Reads take_word old new n → Reads (take_place mode rm) old new (RipBased n)
-  reads_rip zero five = reads_as take_word (take_place mode rm) RipBased (rip_follows zero five)
+  pub reads_rip : {old new : ReaderState} {n : ℕ} → mode ≡ 0 → rm ≡ 5 → Reads take_doubleword old new n → Reads (take_place mode rm) old new (RipBased n)
+  reads_rip zero five = reads_as take_doubleword (take_place mode rm) RipBased (rip_follows zero five)
 
-  pub lacks_rip : {old new : ReaderState} → mode ≡ 0 → rm ≡ 5 → FallsShort take_word old new → FallsShort (take_place mode rm) old new
-  lacks_rip zero five = lacks_as take_word (take_place mode rm) RipBased (rip_follows zero five)
+  pub lacks_rip : {old new : ReaderState} → mode ≡ 0 → rm ≡ 5 → FallsShort take_doubleword old new → FallsShort (take_place mode rm) old new
+  lacks_rip zero five = lacks_as take_doubleword (take_place mode rm) RipBased (rip_follows zero five)
 
   -- one from a register
   based_follows : rm ≢ 4 → (mode ≢ 0) ⊎ (rm ≢ 5) → (bytes : List ℕ) → take_place mode rm bytes ≡ (take_displacement mode bytes >>= (λ read. Ok (Based rm read.0, read.1)))

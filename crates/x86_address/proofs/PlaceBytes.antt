@@ -1,7 +1,7 @@
 -- The bytes of a place: ModRM first, each below 256, one to six of them.
 use Rattle.std.proofs.Common.{◌≡◌, ◌≢◌, ◌⊎◌, inl, inr, ℕ, ◌+◌, ◌*◌, ◌<◌, ◌≤◌, List, [], ◌∷◌, ◌++◌, length, refl, arith}
 use Rattle.x86_operand.specs.Kind.{WithoutModRM, InRegister, InMemory}
-use Rattle.x86_address.specs.Bytes.{IsBytes, word_bytes, Displacement, Absent, Short, Long, IsDisplacement, displacement_bytes}
+use Rattle.x86_address.specs.Bytes.{IsBytes, doubleword_bytes, Displacement, Absent, Short, Long, IsDisplacement, displacement_bytes}
 use Rattle.x86_address.specs.Place.{Place, NoPlace, Direct, Based, RipBased, Scaled, Baseless, IsPlace, kind_of, mod_of_displacement, mod_of, rm_of, tail_of, place_bytes}
 use Rattle.x86_address.proofs.Fields.{packed_below}
 
@@ -55,24 +55,24 @@ rm_of_below (RipBased n) ok = omega arith
 rm_of_below (Scaled k i j d) ok = omega arith
 rm_of_below (Baseless k i n) ok = omega arith
 
--- the bytes of a word are bytes
-pub IsBytes-word_bytes : (n : ℕ) → IsBytes (word_bytes n)
-IsBytes-word_bytes n = (omega arith, (omega arith, (omega arith, (omega arith, tt))))
+-- the bytes of a doubleword are bytes
+pub IsBytes-doubleword_bytes : (n : ℕ) → IsBytes (doubleword_bytes n)
+IsBytes-doubleword_bytes n = (omega arith, (omega arith, (omega arith, (omega arith, tt))))
 
 -- the bytes of a displacement are bytes
 pub IsBytes-displacement_bytes : (d : Displacement) → IsDisplacement d → IsBytes (displacement_bytes d)
 IsBytes-displacement_bytes Absent ok = tt
 IsBytes-displacement_bytes (Short n) ok = (ok, tt)
-IsBytes-displacement_bytes (Long n) ok = IsBytes-word_bytes n
+IsBytes-displacement_bytes (Long n) ok = IsBytes-doubleword_bytes n
 
 -- SIB and displacement are bytes
 pub IsBytes-tail_of : (p : Place) → IsPlace p → IsBytes (tail_of p)
 IsBytes-tail_of NoPlace ok = tt
 IsBytes-tail_of (Direct rm) ok = tt
 IsBytes-tail_of (Based rm d) ok = IsBytes-displacement_bytes d ok.3
-IsBytes-tail_of (RipBased n) ok = IsBytes-word_bytes n
+IsBytes-tail_of (RipBased n) ok = IsBytes-doubleword_bytes n
 IsBytes-tail_of (Scaled k i j d) ok = (packed_below k i j ok.0 ok.1 ok.2, IsBytes-displacement_bytes d ok.4)
-IsBytes-tail_of (Baseless k i n) ok = (packed_below k i 5 ok.0 ok.1 (omega arith), IsBytes-word_bytes n)
+IsBytes-tail_of (Baseless k i n) ok = (packed_below k i 5 ok.0 ok.1 (omega arith), IsBytes-doubleword_bytes n)
 
 -- ModRM is a byte
 pub modrm_below : (reg : ℕ) (p : Place) → reg < 8 → IsPlace p → 64 * mod_of p + 8 * reg + rm_of p < 256

@@ -5,22 +5,22 @@ use Rattle.std.proofs.lemmas.Bool.Decides.{nat_tests}
 use Rattle.x86_operand.specs.declared.error.DecodeError.{DecodeError}
 use Rattle.x86_operand.specs.declared.error.DecodeError.TheVariants.{ExhaustedInput}
 use Rattle.x86_operand.specs.Kind.{WithoutModRM, InRegister, InMemory}
-use Rattle.x86_address.specs.Bytes.{IsBytes, word_bytes, Displacement, Absent, Short, Long, IsDisplacement, displacement_bytes}
+use Rattle.x86_address.specs.Bytes.{IsBytes, doubleword_bytes, Displacement, Absent, Short, Long, IsDisplacement, displacement_bytes}
 use Rattle.x86_address.specs.Place.{Place, NoPlace, Direct, Based, RipBased, Scaled, Baseless, MayBeBase, IsPlace, kind_of, mod_of_displacement, mod_of, rm_of, tail_of, place_bytes}
-use Rattle.x86_address.specs.Reading.{take_byte, take_word, take_short, take_long, take_displacement, take_baseless, take_scaled, take_sib, take_rip_based, take_based, take_place}
-use Rattle.x86_address.proofs.Fields.{word_of_bytes, bytes_of_word, high_field, middle_field, low_field, high_field_below, low_field_below, packed}
+use Rattle.x86_address.specs.Reading.{take_byte, take_doubleword, take_short, take_long, take_displacement, take_baseless, take_scaled, take_sib, take_rip_based, take_based, take_place}
+use Rattle.x86_address.proofs.Fields.{doubleword_of_bytes, bytes_of_doubleword, high_field, middle_field, low_field, high_field_below, low_field_below, packed}
 use Rattle.x86_address.proofs.PlaceBytes.{has_modrm, place_bytes_split, rm_of_below}
 use Rattle.x86_address.proofs.Reader.{IsReader, IsReader-ok, IsReader-bind, IsReader-if, Exhausts, Answers, Answers-ok, Answers-bind, Answers-if, ReadsByte, take_byte-written, IsReader-take_byte}
 
--- a word that is written is read again
-pub take_word-again : (n : ℕ) (rest : List ℕ) → n < 2 ^ 32 → take_word (word_bytes n ++ rest) ≡ Ok (n, rest)
-take_word-again n rest p = rw (word_of_bytes n p)
+-- a doubleword that is written is read again
+pub take_doubleword-again : (n : ℕ) (rest : List ℕ) → n < 2 ^ 32 → take_doubleword (doubleword_bytes n ++ rest) ≡ Ok (n, rest)
+take_doubleword-again n rest p = rw (doubleword_of_bytes n p)
 
 -- a displacement that is written is read again, by the mod that it has
 pub take_displacement-again : (d : Displacement) (rest : List ℕ) → IsDisplacement d → take_displacement (mod_of_displacement d) (displacement_bytes d ++ rest) ≡ Ok (d, rest)
 take_displacement-again Absent rest p = refl
 take_displacement-again (Short n) rest p = refl
-take_displacement-again (Long n) rest p = rw (word_of_bytes n p)
+take_displacement-again (Long n) rest p = rw (doubleword_of_bytes n p)
 
 -- a place that is written is read again, by the mod and rm that it has
 pub take_place-again : (p : Place) (rest : List ℕ) → IsPlace p → (kind_of p ≡ InRegister) ⊎ (kind_of p ≡ InMemory) → take_place (mod_of p) (rm_of p) (tail_of p ++ rest) ≡ Ok (p, rest)
@@ -28,31 +28,31 @@ take_place-again NoPlace rest ok k = grind arith
 take_place-again (Direct rm) rest ok k = refl
 take_place-again (Based rm Absent) rest ok k = rw (ne_eqb rm 4 ok.1, ne_eqb rm 5 ok.2) refl
 take_place-again (Based rm (Short n)) rest ok k = rw (ne_eqb rm 4 ok.1) refl
-take_place-again (Based rm (Long n)) rest ok k = rw (ne_eqb rm 4 ok.1, word_of_bytes n ok.3) refl
-take_place-again (RipBased n) rest ok k = rw (word_of_bytes n ok) refl
+take_place-again (Based rm (Long n)) rest ok k = rw (ne_eqb rm 4 ok.1, doubleword_of_bytes n ok.3) refl
+take_place-again (RipBased n) rest ok k = rw (doubleword_of_bytes n ok) refl
 take_place-again (Scaled k i j Absent) rest ok _ = rw (low_field k i j ok.2, ne_eqb j 5 ok.3, high_field k i j ok.1 ok.2, middle_field k i j ok.1 ok.2) refl
 take_place-again (Scaled k i j (Short n)) rest ok _ = rw (low_field k i j ok.2, high_field k i j ok.1 ok.2, middle_field k i j ok.1 ok.2) refl
-take_place-again (Scaled k i j (Long n)) rest ok _ = rw (low_field k i j ok.2, high_field k i j ok.1 ok.2, middle_field k i j ok.1 ok.2, word_of_bytes n ok.4) refl
+take_place-again (Scaled k i j (Long n)) rest ok _ = rw (low_field k i j ok.2, high_field k i j ok.1 ok.2, middle_field k i j ok.1 ok.2, doubleword_of_bytes n ok.4) refl
 take_place-again (Baseless k i n) rest ok _ =
     let five : 5 < 8 = omega arith in
-    rw (low_field k i 5 five, high_field k i 5 ok.1 five, middle_field k i 5 ok.1 five, word_of_bytes n ok.2) refl
+    rw (low_field k i 5 five, high_field k i 5 ok.1 five, middle_field k i 5 ok.1 five, doubleword_of_bytes n ok.2) refl
 
--- a word that was read stood first, in its four bytes
-pub record ReadsWord (bytes : List ℕ) (n : ℕ) (rest : List ℕ) : Type 0 where
-  pub is_word : n < 2 ^ 32
-  pub written : bytes ≡ word_bytes n ++ rest
+-- a doubleword that was read stood first, in its four bytes
+pub record ReadsDoubleword (bytes : List ℕ) (n : ℕ) (rest : List ℕ) : Type 0 where
+  pub is_doubleword : n < 2 ^ 32
+  pub written : bytes ≡ doubleword_bytes n ++ rest
   pub left : IsBytes rest
 
--- a word that was read stood first
-pub take_word-written : (bytes : List ℕ) → IsBytes bytes → Answers (ReadsWord bytes) (take_word bytes)
-take_word-written [] ok value rest h = cc
-take_word-written (a ∷ []) ok value rest h = cc
-take_word-written (a ∷ b ∷ []) ok value rest h = cc
-take_word-written (a ∷ b ∷ c ∷ []) ok value rest h = cc
-take_word-written (a ∷ b ∷ c ∷ d ∷ after) ok value rest h =
-    Answers-ok (ReadsWord (a ∷ b ∷ c ∷ d ∷ after)) (a + 256 * b + 65536 * c + 16777216 * d) after (record {
-      is_word = omega arith;
-      written = sym (ap (λ bytes. bytes ++ after) (bytes_of_word a b c d ok.0 ok.1.0 ok.1.1.0 ok.1.1.1.0));
+-- a doubleword that was read stood first
+pub take_doubleword-written : (bytes : List ℕ) → IsBytes bytes → Answers (ReadsDoubleword bytes) (take_doubleword bytes)
+take_doubleword-written [] ok value rest h = cc
+take_doubleword-written (a ∷ []) ok value rest h = cc
+take_doubleword-written (a ∷ b ∷ []) ok value rest h = cc
+take_doubleword-written (a ∷ b ∷ c ∷ []) ok value rest h = cc
+take_doubleword-written (a ∷ b ∷ c ∷ d ∷ after) ok value rest h =
+    Answers-ok (ReadsDoubleword (a ∷ b ∷ c ∷ d ∷ after)) (a + 256 * b + 65536 * c + 16777216 * d) after (record {
+      is_doubleword = omega arith;
+      written = sym (ap (λ bytes. bytes ++ after) (bytes_of_doubleword a b c d ok.0 ok.1.0 ok.1.1.0 ok.1.1.1.0));
       left = ok.1.1.1.1;
     }) value rest h
 
@@ -68,10 +68,10 @@ take_short-written : (mode : ℕ) (bytes : List ℕ) → mode ≡ 1 → IsBytes 
 take_short-written mode bytes m ok =
     Answers-bind (ReadsByte bytes) (ReadsDisplacement mode bytes) _ _ (take_byte-written bytes ok) (λ n rest r. Answers-ok _ (Short n) rest (record { is_displacement = r.is_byte; mode_is = sym m; written = r.written; left = r.left }))
 
--- mod 2 reads a word
+-- mod 2 reads a doubleword
 take_long-written : (mode : ℕ) (bytes : List ℕ) → mode ≡ 2 → IsBytes bytes → Answers (ReadsDisplacement mode bytes) (take_long bytes)
 take_long-written mode bytes m ok =
-    Answers-bind (ReadsWord bytes) (ReadsDisplacement mode bytes) _ _ (take_word-written bytes ok) (λ n rest r. Answers-ok _ (Long n) rest (record { is_displacement = r.is_word; mode_is = sym m; written = r.written; left = r.left }))
+    Answers-bind (ReadsDoubleword bytes) (ReadsDisplacement mode bytes) _ _ (take_doubleword-written bytes ok) (λ n rest r. Answers-ok _ (Long n) rest (record { is_displacement = r.is_doubleword; mode_is = sym m; written = r.written; left = r.left }))
 
 -- each mod but 3 reads the displacement that it says
 pub take_displacement-written : (mode : ℕ) (bytes : List ℕ) → mode < 3 → IsBytes bytes → Answers (ReadsDisplacement mode bytes) (take_displacement mode bytes)
@@ -108,8 +108,8 @@ take_based-written mode rm bytes m r four base ok =
 -- the instruction pointer
 take_rip_based-written : (mode rm : ℕ) (bytes : List ℕ) → mode ≡ 0 → rm ≡ 5 → IsBytes bytes → Answers (ReadsPlace mode rm bytes) (take_rip_based bytes)
 take_rip_based-written mode rm bytes m r ok =
-    Answers-bind (ReadsWord bytes) _ _ _ (take_word-written bytes ok) (λ n rest read. Answers-ok _ (RipBased n) rest (record {
-      is_place = read.is_word;
+    Answers-bind (ReadsDoubleword bytes) _ _ _ (take_doubleword-written bytes ok) (λ n rest read. Answers-ok _ (RipBased n) rest (record {
+      is_place = read.is_doubleword;
       mod_is = sym m;
       rm_is = sym r;
       kind_is = grind (arith, nat_tests);
@@ -120,8 +120,8 @@ take_rip_based-written mode rm bytes m r ok =
 -- SIB without a base
 take_baseless-written : (mode sib : ℕ) (bytes : List ℕ) → mode ≡ 0 → sib < 256 → sib % 8 ≡ 5 → IsBytes bytes → Answers (ReadsPlace mode 4 (sib ∷ bytes)) (take_baseless sib bytes)
 take_baseless-written mode sib bytes m s five ok =
-    Answers-bind (ReadsWord bytes) _ _ _ (take_word-written bytes ok) (λ n rest read. Answers-ok _ (Baseless (sib / 64) ((sib / 8) % 8) n) rest (record {
-      is_place = (omega arith, omega arith, read.is_word);
+    Answers-bind (ReadsDoubleword bytes) _ _ _ (take_doubleword-written bytes ok) (λ n rest read. Answers-ok _ (Baseless (sib / 64) ((sib / 8) % 8) n) rest (record {
+      is_place = (omega arith, omega arith, read.is_doubleword);
       mod_is = sym m;
       rm_is = refl;
       kind_is = grind (arith, nat_tests);
@@ -192,33 +192,33 @@ pub modrm-again : (reg : ℕ) (p : Place) (modrm : ℕ) (rest : List ℕ) → re
 modrm-again reg p modrm rest below ok has e =
     rw (e, high_field (mod_of p) reg (rm_of p) below (rm_of_below p ok), low_field (mod_of p) reg (rm_of p) (rm_of_below p ok)) (take_place-again p rest ok has)
 
--- the step of a word
-pub IsReader-take_word : IsReader Exhausts take_word
-IsReader-take_word =
+-- the step of a doubleword
+pub IsReader-take_doubleword : IsReader Exhausts take_doubleword
+IsReader-take_doubleword =
     IsReader-bind _ take_byte _ IsReader-take_byte (λ a. IsReader-bind _ take_byte _ IsReader-take_byte (λ b. IsReader-bind _ take_byte _ IsReader-take_byte (λ c. IsReader-bind _ take_byte _ IsReader-take_byte (λ d. IsReader-ok _ _))))
 
 -- the step of a displacement
 pub IsReader-take_displacement : (mode : ℕ) → IsReader Exhausts (take_displacement mode)
 IsReader-take_displacement mode =
-    IsReader-if _ _ _ _ (IsReader-ok _ Absent) (IsReader-if _ _ _ _ (IsReader-bind _ take_byte _ IsReader-take_byte (λ n. IsReader-ok _ (Short n))) (IsReader-bind _ take_word _ IsReader-take_word (λ n. IsReader-ok _ (Long n))))
+    IsReader-if _ _ _ _ (IsReader-ok _ Absent) (IsReader-if _ _ _ _ (IsReader-bind _ take_byte _ IsReader-take_byte (λ n. IsReader-ok _ (Short n))) (IsReader-bind _ take_doubleword _ IsReader-take_doubleword (λ n. IsReader-ok _ (Long n))))
 
 -- the step of SIB and what follows it
 pub IsReader-take_sib : (mode : ℕ) → IsReader Exhausts (take_sib mode)
 IsReader-take_sib mode =
-    IsReader-bind _ take_byte _ IsReader-take_byte (λ sib. IsReader-if _ _ _ _ (IsReader-bind _ take_word _ IsReader-take_word (λ n. IsReader-ok _ _)) (IsReader-bind _ (take_displacement mode) _ (IsReader-take_displacement mode) (λ d. IsReader-ok _ _)))
+    IsReader-bind _ take_byte _ IsReader-take_byte (λ sib. IsReader-if _ _ _ _ (IsReader-bind _ take_doubleword _ IsReader-take_doubleword (λ n. IsReader-ok _ _)) (IsReader-bind _ (take_displacement mode) _ (IsReader-take_displacement mode) (λ d. IsReader-ok _ _)))
 
 -- the step of all that follows ModRM
 pub IsReader-take_place : (mode rm : ℕ) → IsReader Exhausts (take_place mode rm)
 IsReader-take_place mode rm =
-    IsReader-if _ _ _ _ (IsReader-ok _ _) (IsReader-if _ _ _ _ (IsReader-take_sib mode) (IsReader-if _ _ _ _ (IsReader-bind _ take_word _ IsReader-take_word (λ n. IsReader-ok _ _)) (IsReader-bind _ (take_displacement mode) _ (IsReader-take_displacement mode) (λ d. IsReader-ok _ _))))
+    IsReader-if _ _ _ _ (IsReader-ok _ _) (IsReader-if _ _ _ _ (IsReader-take_sib mode) (IsReader-if _ _ _ _ (IsReader-bind _ take_doubleword _ IsReader-take_doubleword (λ n. IsReader-ok _ _)) (IsReader-bind _ (take_displacement mode) _ (IsReader-take_displacement mode) (λ d. IsReader-ok _ _))))
 
 -- reading a byte fails only where no byte is left
 pub take_byte-fails : (bytes : List ℕ) (error : DecodeError × List ℕ) → take_byte bytes ≡ Err error → error ≡ (ExhaustedInput, [])
 take_byte-fails = IsReader-take_byte.fails
 
--- reading a word fails only where no byte is left
-pub take_word-fails : (bytes : List ℕ) (error : DecodeError × List ℕ) → take_word bytes ≡ Err error → error ≡ (ExhaustedInput, [])
-take_word-fails = IsReader-take_word.fails
+-- reading a doubleword fails only where no byte is left
+pub take_doubleword-fails : (bytes : List ℕ) (error : DecodeError × List ℕ) → take_doubleword bytes ≡ Err error → error ≡ (ExhaustedInput, [])
+take_doubleword-fails = IsReader-take_doubleword.fails
 
 -- reading a place fails only where no byte is left
 pub take_place-fails : (mode rm : ℕ) (bytes : List ℕ) (error : DecodeError × List ℕ) → take_place mode rm bytes ≡ Err error → error ≡ (ExhaustedInput, [])
@@ -229,8 +229,8 @@ pub take_byte-more : (bytes more : List ℕ) (n : ℕ) (rest : List ℕ) → tak
 take_byte-more bytes more n rest = IsReader-take_byte.more bytes more (n, rest)
 
 -- bytes after those that are read change nothing
-pub take_word-more : (bytes more : List ℕ) (n : ℕ) (rest : List ℕ) → take_word bytes ≡ Ok (n, rest) → take_word (bytes ++ more) ≡ Ok (n, rest ++ more)
-take_word-more bytes more n rest = IsReader-take_word.more bytes more (n, rest)
+pub take_doubleword-more : (bytes more : List ℕ) (n : ℕ) (rest : List ℕ) → take_doubleword bytes ≡ Ok (n, rest) → take_doubleword (bytes ++ more) ≡ Ok (n, rest ++ more)
+take_doubleword-more bytes more n rest = IsReader-take_doubleword.more bytes more (n, rest)
 
 -- bytes after those that are read change nothing
 pub take_place-more : (mode rm : ℕ) (bytes more : List ℕ) (p : Place) (rest : List ℕ) → take_place mode rm bytes ≡ Ok (p, rest) → take_place mode rm (bytes ++ more) ≡ Ok (p, rest ++ more)

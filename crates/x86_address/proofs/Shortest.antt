@@ -9,31 +9,31 @@ use Rattle.x86_operand.specs.declared.register.RegisterBank.{RegisterBank}
 use Rattle.x86_address.specs.Bytes.{bit, Displacement, Absent, Short, Long, IsDisplacement, displacement_bytes, displacement_value}
 use Rattle.x86_address.specs.Place.{Place, NoPlace, Direct, Based, RipBased, Scaled, Baseless, MayBeBase, IsPlace, kind_of, place_bytes, Base, NoBase, Rip, Numbered, PlainAddress, Target, NoTarget, Number, At, kind_of_target, index_of, target}
 use Rattle.x86_address.proofs.PlaceBytes.{displacement_length}
-use Rattle.x86_address.specs.Shortest.{plain, plain_base, plain_index, in_banks, base_register, index_register, word_of, shortest_displacement, exponent_of, exponent_field, index_field, has_index, place_of_numbered, place_of_base, shortest, is_upper, x_of_index, b_of_base, x_of, b_of, IsBase, IsIndex, IsSpellable}
+use Rattle.x86_address.specs.Shortest.{plain, plain_base, plain_index, in_banks, base_register, index_register, doubleword_of, shortest_displacement, exponent_of, exponent_field, index_field, has_index, place_of_numbered, place_of_base, shortest, is_upper, x_of_index, b_of_base, x_of, b_of, IsBase, IsIndex, IsSpellable}
 
 -- ---- displacements
 
--- a word has 32 bits
-pub word_of_below : (z : ℤ) → word_of z < 2 ^ 32
-word_of_below (pos n) = omega arith
-word_of_below (negsuc n) = omega arith
+-- a doubleword has 32 bits
+pub doubleword_of_below : (z : ℤ) → doubleword_of z < 2 ^ 32
+doubleword_of_below (pos n) = omega arith
+doubleword_of_below (negsuc n) = omega arith
 
 -- how the shortest displacement of a value is chosen
 data IsShortest (must : Bool) : ℤ → Displacement → Type 0 where
   absent : {n : ℕ} → n ≡ 0 → must ≡ false → IsShortest must (pos n) Absent
   short : {n : ℕ} → n < 128 → (n ≡ 0 → must ≡ true) → IsShortest must (pos n) (Short n)
-  long : {n : ℕ} → 128 ≤ n → IsShortest must (pos n) (Long (word_of (pos n)))
+  long : {n : ℕ} → 128 ≤ n → IsShortest must (pos n) (Long (doubleword_of (pos n)))
   short_negative : {n : ℕ} → n < 128 → IsShortest must (negsuc n) (Short (255 - n))
-  long_negative : {n : ℕ} → 128 ≤ n → IsShortest must (negsuc n) (Long (word_of (negsuc n)))
+  long_negative : {n : ℕ} → 128 ≤ n → IsShortest must (negsuc n) (Long (doubleword_of (negsuc n)))
 
 -- the choice at 0 and above, by its tests
-chosen : (must : Bool) (n : ℕ) (none small : Bool) → (n == 0 && not must) ≡ none → nat_lt n 128 ≡ small → IsShortest must (pos n) (if none then Absent else if small then Short n else Long (word_of (pos n)))
+chosen : (must : Bool) (n : ℕ) (none small : Bool) → (n == 0 && not must) ≡ none → nat_lt n 128 ≡ small → IsShortest must (pos n) (if none then Absent else if small then Short n else Long (doubleword_of (pos n)))
 chosen must n true small e f = absent (grind (arith, nat_tests)) (grind (arith, nat_tests))
 chosen must n false true e f = short (ltb-true n 128 f) (λ z. grind (arith, nat_tests))
 chosen must n false false e f = long (ltb-false n 128 f)
 
 -- the choice below 0, by its test
-chosen_negative : (must : Bool) (n : ℕ) (small : Bool) → nat_lt n 128 ≡ small → IsShortest must (negsuc n) (if small then Short (255 - n) else Long (word_of (negsuc n)))
+chosen_negative : (must : Bool) (n : ℕ) (small : Bool) → nat_lt n 128 ≡ small → IsShortest must (negsuc n) (if small then Short (255 - n) else Long (doubleword_of (negsuc n)))
 chosen_negative must n true f = short_negative (ltb-true n 128 f)
 chosen_negative must n false f = long_negative (ltb-false n 128 f)
 
@@ -46,9 +46,9 @@ is_shortest must (negsuc n) = chosen_negative must n _ refl
 IsDisplacement-shortest : {must : Bool} {z : ℤ} {d : Displacement} → IsShortest must z d → IsDisplacement d
 IsDisplacement-shortest (absent e f) = tt
 IsDisplacement-shortest (short l e) = omega arith
-IsDisplacement-shortest (long {n = n} l) = word_of_below (pos n)
+IsDisplacement-shortest (long {n = n} l) = doubleword_of_below (pos n)
 IsDisplacement-shortest (short_negative l) = omega arith
-IsDisplacement-shortest (long_negative {n = n} l) = word_of_below (negsuc n)
+IsDisplacement-shortest (long_negative {n = n} l) = doubleword_of_below (negsuc n)
 
 -- it may stand beside the base whose field it was chosen for
 MayBeBase-shortest : (field : ℕ) {z : ℤ} {d : Displacement} → IsShortest (field == 5) z d → MayBeBase field d
@@ -62,22 +62,22 @@ MayBeBase-shortest field (long_negative l) = tt
 high_byte : (n : ℕ) → n < 128 → cast_signed w8 (255 - n) ≡ negsuc n
 high_byte n h = grind (arith, ints)
 
--- the value of a word whose top bit is set
-high_word : (n : ℕ) → n < 2 ^ 31 → cast_signed w32 ((2 ^ 32 - 1 - n) % 2 ^ 32) ≡ negsuc n
-high_word n h = grind (arith, ints)
+-- the value of a doubleword whose top bit is set
+high_doubleword : (n : ℕ) → n < 2 ^ 31 → cast_signed w32 ((2 ^ 32 - 1 - n) % 2 ^ 32) ≡ negsuc n
+high_doubleword n h = grind (arith, ints)
 
--- the word of a value has that value
-value_of_word : (z : ℤ) → FitsSigned w32 z → cast_signed w32 (word_of z) ≡ z
-value_of_word (pos n) h = omega (arith, ints)
-value_of_word (negsuc n) h = high_word n (omega arith)
+-- the doubleword of a value has that value
+value_of_doubleword : (z : ℤ) → FitsSigned w32 z → cast_signed w32 (doubleword_of z) ≡ z
+value_of_doubleword (pos n) h = omega (arith, ints)
+value_of_doubleword (negsuc n) h = high_doubleword n (omega arith)
 
 -- it has the value that it was chosen for
 value-shortest : {must : Bool} {z : ℤ} {d : Displacement} → IsShortest must z d → FitsSigned w32 z → displacement_value d ≡ z
 value-shortest (absent e f) h = ap pos (sym e)
 value-shortest (short l e) h = omega (arith, ints)
-value-shortest (long {n = n} l) h = value_of_word (pos n) h
+value-shortest (long {n = n} l) h = value_of_doubleword (pos n) h
 value-shortest (short_negative {n = n} l) h = high_byte n l
-value-shortest (long_negative {n = n} l) h = value_of_word (negsuc n) h
+value-shortest (long_negative {n = n} l) h = value_of_doubleword (negsuc n) h
 
 -- the value of a displacement has 32 bits
 fits_value : (d : Displacement) → IsDisplacement d → FitsSigned w32 (displacement_value d)
@@ -179,8 +179,8 @@ IsPlace-place_of_numbered n index z =
 
 -- with each base it is a place
 IsPlace-place_of_base : (base : Base) (index : Option (ℕ × ℕ)) (z : ℤ) → IsPlace (place_of_base base index z)
-IsPlace-place_of_base NoBase index z = (exponent_field_below index, index_field_below index, word_of_below z)
-IsPlace-place_of_base Rip index z = word_of_below z
+IsPlace-place_of_base NoBase index z = (exponent_field_below index, index_field_below index, doubleword_of_below z)
+IsPlace-place_of_base Rip index z = doubleword_of_below z
 IsPlace-place_of_base (Numbered n) index z = IsPlace-place_of_numbered n index z
 
 -- the shortest place is a place
@@ -219,8 +219,8 @@ no_index (Some index) h = cc
 
 -- the place of an address that bytes can name names it
 named_again : (base : Base) (index : Option (ℕ × ℕ)) (z : ℤ) → IsBase base → IsIndex index → FitsSigned w32 z → (base ≡ Rip → index ≡ None) → target (place_of_base base index z) (x_of_index index) (b_of_base base) ≡ At (record { base = base; index = index; disp = z })
-named_again NoBase index z p q fits alone = rw (index_again index q, value_of_word z fits)
-named_again Rip index z p q fits alone = rw (value_of_word z fits, alone refl)
+named_again NoBase index z p q fits alone = rw (index_again index q, value_of_doubleword z fits)
+named_again Rip index z p q fits alone = rw (value_of_doubleword z fits, alone refl)
 named_again (Numbered n) index z p q fits alone =
     let d = value-shortest (is_shortest (n % 8 == 5) z) fits in
     numbered_either (λ place. target place (x_of_index index) (is_upper n) ≡ At (record { base = Numbered n; index = index; disp = z })) n index z

@@ -13,7 +13,7 @@ use Rattle.x86_reader.proofs.Taking.{Stops-slice}
 use Rattle.x86_address.specs.Bytes.{IsBytes, Short, Long}
 use Rattle.x86_address.specs.Place.{Place, tail_of, Target, SpellsTarget}
 use Rattle.x86_address.specs.Shortest.{plain, in_banks}
-use Rattle.x86_address.specs.Reading.{Reading, ◌>>=◌, take_byte, take_word, take_displacement, take_baseless, take_scaled, take_sib, take_place}
+use Rattle.x86_address.specs.Reading.{Reading, ◌>>=◌, take_byte, take_doubleword, take_displacement, take_baseless, take_scaled, take_sib, take_place}
 use Rattle.x86_address.specs.Reads.{Reads, ReadsSome, FallsShort, ExactOverSlice, NamesAddress, SpelledBy, CutShort}
 use Rattle.x86_address.proofs.Fields.{high_field_below, low_field_below}
 use Rattle.x86_address.proofs.PlaceBytes.{has_modrm, place_bytes_split, place_bytes_none, tail_length}
@@ -89,12 +89,12 @@ most_byte : TakesAtMost 1 take_byte
 most_byte [] h = omega arith
 most_byte (byte ∷ bytes) h = cc
 
-most_word : TakesAtMost 4 take_word
-most_word [] h = omega arith
-most_word (a ∷ []) h = omega arith
-most_word (a ∷ b ∷ []) h = omega arith
-most_word (a ∷ b ∷ c ∷ []) h = omega arith
-most_word (a ∷ b ∷ c ∷ d ∷ bytes) h = cc
+most_doubleword : TakesAtMost 4 take_doubleword
+most_doubleword [] h = omega arith
+most_doubleword (a ∷ []) h = omega arith
+most_doubleword (a ∷ b ∷ []) h = omega arith
+most_doubleword (a ∷ b ∷ c ∷ []) h = omega arith
+most_doubleword (a ∷ b ∷ c ∷ d ∷ bytes) h = cc
 
 -- a step whose value is turned into one more fails where it fails
 fails_before : {A B : Type 0} (f : A → B) (reading : Reading A) → IsErr (reading >>= (λ read. Ok (f read.0, read.1))) → IsErr reading
@@ -107,18 +107,18 @@ most_if false one other p q = q
 
 most_displacement : (mode : ℕ) → TakesAtMost 4 (take_displacement mode)
 most_displacement mode =
-    most_if (mode == 0) _ _ (λ bytes h. cc) (most_if (mode == 1) _ _ (λ bytes h. omega (arith, most_byte bytes (fails_before Short (take_byte bytes) h))) (λ bytes h. most_word bytes (fails_before Long (take_word bytes) h)))
+    most_if (mode == 0) _ _ (λ bytes h. cc) (most_if (mode == 1) _ _ (λ bytes h. omega (arith, most_byte bytes (fails_before Short (take_byte bytes) h))) (λ bytes h. most_doubleword bytes (fails_before Long (take_doubleword bytes) h)))
 
 most_sib : (mode : ℕ) → TakesAtMost 5 (take_sib mode)
 most_sib mode [] h = omega arith
 most_sib mode (sib ∷ bytes) h =
-    let after : length bytes < 4 = most_if (mode == 0 && sib % 8 == 5) (take_baseless sib) (take_scaled mode sib) (λ bytes h. most_word bytes (fails_before _ (take_word bytes) h)) (λ bytes h. most_displacement mode bytes (fails_before _ (take_displacement mode bytes) h)) bytes h in
+    let after : length bytes < 4 = most_if (mode == 0 && sib % 8 == 5) (take_baseless sib) (take_scaled mode sib) (λ bytes h. most_doubleword bytes (fails_before _ (take_doubleword bytes) h)) (λ bytes h. most_displacement mode bytes (fails_before _ (take_displacement mode bytes) h)) bytes h in
     omega arith
 
 -- what follows ModRM is at most five bytes
 most_place : (mode rm : ℕ) → TakesAtMost 5 (take_place mode rm)
 most_place mode rm =
-    most_if (mode == 3) _ _ (λ bytes h. cc) (most_if (rm == 4) _ _ (most_sib mode) (most_if (mode == 0 && rm == 5) _ _ (λ bytes h. omega (arith, most_word bytes (fails_before _ (take_word bytes) h))) (λ bytes h. omega (arith, most_displacement mode bytes (fails_before _ (take_displacement mode bytes) h)))))
+    most_if (mode == 3) _ _ (λ bytes h. cc) (most_if (rm == 4) _ _ (most_sib mode) (most_if (mode == 0 && rm == 5) _ _ (λ bytes h. omega (arith, most_doubleword bytes (fails_before _ (take_doubleword bytes) h))) (λ bytes h. omega (arith, most_displacement mode bytes (fails_before _ (take_displacement mode bytes) h)))))
 
 -- lists that are one have one head and one tail
 same_parts : (a b : ℕ) (rest others : List ℕ) → a ∷ rest ≡ b ∷ others → (a ≡ b) × (rest ≡ others)

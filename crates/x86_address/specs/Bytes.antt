@@ -15,17 +15,17 @@ abbrev pub bit : Bool → ℕ
 bit true = 1
 bit false = 0
 
--- the four bytes of a 32-bit word, the lowest first
-abbrev pub word_bytes : ℕ → List ℕ
-word_bytes n = n % 256 ∷ (n / 256) % 256 ∷ (n / 65536) % 256 ∷ (n / 16777216) % 256 ∷ []
+-- the four bytes of a doubleword, the lowest first
+abbrev pub doubleword_bytes : ℕ → List ℕ
+doubleword_bytes n = n % 256 ∷ (n / 256) % 256 ∷ (n / 65536) % 256 ∷ (n / 16777216) % 256 ∷ []
 
--- a displacement as it is written: none, a byte, or a 32-bit word
+-- a displacement as it is written: none, a byte, or a doubleword
 pub data Displacement : Type 0 where
   Absent : Displacement
   Short : ℕ → Displacement
   Long : ℕ → Displacement
 
--- its numbers fit a byte and a word
+-- its numbers fit a byte and a doubleword
 abbrev pub IsDisplacement : Displacement → Type 0
 IsDisplacement Absent = Unit {0}
 IsDisplacement (Short n) = n < 256
@@ -35,7 +35,7 @@ IsDisplacement (Long n) = n < 2 ^ 32
 abbrev pub displacement_bytes : Displacement → List ℕ
 displacement_bytes Absent = []
 displacement_bytes (Short n) = n ∷ []
-displacement_bytes (Long n) = word_bytes n
+displacement_bytes (Long n) = doubleword_bytes n
 
 -- what it adds to an address: 0, or the two's complement value of its bytes
 abbrev pub displacement_value : Displacement → ℤ

@@ -1,7 +1,7 @@
 use Rattle.std.specs.Prelude.{◌≡◌, ◌≢◌, ℕ, ◌+◌, ◌*◌, ◌^◌, ◌<◌, ℤ, Bool, List, [], ◌∷◌, Option, Some, None, ◌==◌, if◌then◌else◌}
 use Rattle.std.specs.Int.{cast_signed, w32}
 use Rattle.x86_operand.specs.Kind.{Kind, WithoutModRM, InRegister, InMemory}
-use Rattle.x86_address.specs.Bytes.{bit, word_bytes, Displacement, Absent, Short, Long, IsDisplacement, displacement_bytes, displacement_value}
+use Rattle.x86_address.specs.Bytes.{bit, doubleword_bytes, Displacement, Absent, Short, Long, IsDisplacement, displacement_bytes, displacement_value}
 
 -- how the bytes from ModRM on name the operand E, by its fields: rm of ModRM, or the scale's exponent k, the index
 -- field i and the base field j of SIB, and the displacement (SDM volume 2, tables 2-2 and 2-3)
@@ -66,9 +66,9 @@ abbrev pub tail_of : Place → List ℕ
 tail_of NoPlace = []
 tail_of (Direct rm) = []
 tail_of (Based rm d) = displacement_bytes d
-tail_of (RipBased n) = word_bytes n
+tail_of (RipBased n) = doubleword_bytes n
 tail_of (Scaled k i j d) = (64 * k + 8 * i + j) ∷ displacement_bytes d
-tail_of (Baseless k i n) = (64 * k + 8 * i + 5) ∷ word_bytes n
+tail_of (Baseless k i n) = (64 * k + 8 * i + 5) ∷ doubleword_bytes n
 
 -- the bytes from ModRM on, with the field reg in it
 abbrev pub place_bytes : ℕ → Place → List ℕ

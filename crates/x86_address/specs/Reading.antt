@@ -19,9 +19,9 @@ abbrev pub take_byte : List ℕ → Reading ℕ
 take_byte [] = Err (ExhaustedInput, [])
 take_byte (byte ∷ rest) = Ok (byte, rest)
 
--- a 32-bit word, its lowest byte first
-abbrev pub take_word : List ℕ → Reading ℕ
-take_word bytes = do
+-- a doubleword, its lowest byte first
+abbrev pub take_doubleword : List ℕ → Reading ℕ
+take_doubleword bytes = do
   a ← take_byte bytes
   b ← take_byte a.1
   c ← take_byte b.1
@@ -36,7 +36,7 @@ take_short bytes = do
 
 abbrev pub take_long : List ℕ → Reading Displacement
 take_long bytes = do
-  n ← take_word bytes
+  n ← take_doubleword bytes
   Ok (Long n.0, n.1)
 
 abbrev pub take_displacement : ℕ → List ℕ → Reading Displacement
@@ -45,7 +45,7 @@ take_displacement mode bytes = if mode == 0 then Ok (Absent, bytes) else if mode
 -- an address by SIB
 abbrev pub take_baseless : ℕ → List ℕ → Reading Place
 take_baseless sib bytes = do
-  n ← take_word bytes
+  n ← take_doubleword bytes
   Ok (Baseless (sib / 64) ((sib / 8) % 8) n.0, n.1)
 
 abbrev pub take_scaled : ℕ → ℕ → List ℕ → Reading Place
@@ -60,7 +60,7 @@ take_sib mode bytes = do
 
 abbrev pub take_rip_based : List ℕ → Reading Place
 take_rip_based bytes = do
-  n ← take_word bytes
+  n ← take_doubleword bytes
   Ok (RipBased n.0, n.1)
 
 abbrev pub take_based : ℕ → ℕ → List ℕ → Reading Place

@@ -37,17 +37,17 @@ index_register bank (Some index) = Some (record { reg = record { bank = bank; nu
 abbrev pub in_banks : RegisterBank → PlainAddress → Address
 in_banks bank a = record { base = base_register a.base; index = index_register bank a.index; disp = a.disp }
 
--- the 32-bit word whose two's complement value is this number
-abbrev pub word_of : ℤ → ℕ
-word_of (pos n) = n % 2 ^ 32
-word_of (negsuc n) = (2 ^ 32 - 1 - n) % 2 ^ 32
+-- the doubleword whose two's complement value is this number
+abbrev pub doubleword_of : ℤ → ℕ
+doubleword_of (pos n) = n % 2 ^ 32
+doubleword_of (negsuc n) = (2 ^ 32 - 1 - n) % 2 ^ 32
 
 -- the shortest displacement of a value, which is written even for 0 where it has to be
 abbrev pub shortest_displacement : Bool → ℤ → Displacement
 shortest_displacement must (pos n) =
-    if n == 0 && not must then Absent else if nat_lt n 128 then Short n else Long (word_of (pos n))
+    if n == 0 && not must then Absent else if nat_lt n 128 then Short n else Long (doubleword_of (pos n))
 shortest_displacement must (negsuc n) =
-    if nat_lt n 128 then Short (255 - n) else Long (word_of (negsuc n))
+    if nat_lt n 128 then Short (255 - n) else Long (doubleword_of (negsuc n))
 
 -- the exponent k of a scale 2 to the power k
 abbrev pub exponent_of : ℕ → ℕ
@@ -75,8 +75,8 @@ place_of_numbered n index disp =
     else Based (n % 8) (shortest_displacement (n % 8 == 5) disp)
 
 abbrev pub place_of_base : Base → Option (ℕ × ℕ) → ℤ → Place
-place_of_base NoBase index disp = Baseless (exponent_field index) (index_field index) (word_of disp)
-place_of_base Rip index disp = RipBased (word_of disp)
+place_of_base NoBase index disp = Baseless (exponent_field index) (index_field index) (doubleword_of disp)
+place_of_base Rip index disp = RipBased (doubleword_of disp)
 place_of_base (Numbered n) index disp = place_of_numbered n index disp
 
 -- the least place that can name this target; one that names it not, where no place does

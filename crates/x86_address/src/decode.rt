@@ -7,7 +7,7 @@ ghost use Rattle.x86_reader.specs.SliceReader.{SliceReader, slice_state};
 ghost use Rattle.x86_address.specs.Bytes.{bit, displacement_value};
 ghost use Rattle.x86_address.specs.Place.{index_of};
 ghost use Rattle.x86_address.specs.Shortest.{in_banks, plain, index_register};
-ghost use Rattle.x86_address.specs.Reading.{take_byte, take_word, take_displacement, take_sib, take_place};
+ghost use Rattle.x86_address.specs.Reading.{take_byte, take_doubleword, take_displacement, take_sib, take_place};
 ghost use Rattle.x86_address.specs.Reads.{Reads, ReadsSome, FallsShort, ExactOverSlice, NamesAddress, SpelledBy, CutShort};
 
 use x86_operand::{Address, DecodeError, Index, RegSpec, RegisterBank};
@@ -110,11 +110,11 @@ fn read_byte<R: Reader>(words: &mut R) -> Result<u8, DecodeError>
 }
 
 // A displacement of four bytes, the lowest first.
-fn read_word<R: Reader>(words: &mut R) -> Result<i32, DecodeError>
-    ensures read { IfOk result (λ disp. ReadsSome take_word (λ n. disp ≡ cast_signed w32 n)
+fn read_doubleword<R: Reader>(words: &mut R) -> Result<i32, DecodeError>
+    ensures read { IfOk result (λ disp. ReadsSome take_doubleword (λ n. disp ≡ cast_signed w32 n)
         (R.state words.old) (R.state words.new)) }
     ensures error { IfErr result (λ error. error ≡ DecodeError.ExhaustedInput) }
-    ensures short { OnErr result (FallsShort take_word (R.state words.old) (R.state words.new)) }
+    ensures short { OnErr result (FallsShort take_doubleword (R.state words.old) (R.state words.new)) }
 {
     let lowest = read_byte(words)?;
     let second = read_byte(words)?;
@@ -134,7 +134,7 @@ fn read_displacement<R: Reader>(words: &mut R, mode: u8) -> Result<i32, DecodeEr
     match mode {
         0 => Ok(0),
         1 => Ok(i32::from(read_byte(words)?.cast_signed())),
-        _ => read_word(words),
+        _ => read_doubleword(words),
     }
 }
 
@@ -178,7 +178,7 @@ fn read_by_sib<R: Reader>(words: &mut R, mode: u8, x: bool, b: bool) -> Result<A
     let sib = read_byte(words)?;
     let index = index_of(sib, x);
     if mode == 0 && sib % 8 == 5 {
-        let disp = read_word(words)?;
+        let disp = read_doubleword(words)?;
         return Ok(Address {
             base: None,
             index,
@@ -209,7 +209,7 @@ fn read_by_fields<R: Reader>(
         return read_by_sib(words, mode, x, b);
     }
     if mode == 0 && rm == 5 {
-        let disp = read_word(words)?;
+        let disp = read_doubleword(words)?;
         let base = Some(instruction_pointer());
         return Ok(Address {
             base,

@@ -2,9 +2,9 @@
 
 ghost use Rattle.std.specs.Prelude.{◌≡◌, ◌≤◌, ◌++◌};
 ghost use Rattle.arrayvec.specs.ArrayVec.{array_vec_len};
-ghost use Rattle.x86_address.specs.Bytes.{word_bytes, displacement_bytes};
+ghost use Rattle.x86_address.specs.Bytes.{doubleword_bytes, displacement_bytes};
 ghost use Rattle.x86_address.specs.Place.{mod_of_displacement};
-ghost use Rattle.x86_address.specs.Shortest.{word_of, shortest_displacement};
+ghost use Rattle.x86_address.specs.Shortest.{doubleword_of, shortest_displacement};
 ghost use Rattle.x86_address.specs.Written.{displacement_of};
 
 use arrayvec::ArrayVec;
@@ -14,7 +14,7 @@ use arrayvec::ArrayVec;
 pub(crate) enum Written {
     Nothing,
     Byte(i8),
-    Word(i32),
+    Doubleword(i32),
 }
 
 impl Written {
@@ -27,7 +27,7 @@ impl Written {
         }
         match i8::try_from(value) {
             Ok(byte) => Written::Byte(byte),
-            Err(_) => Written::Word(value),
+            Err(_) => Written::Doubleword(value),
         }
     }
 
@@ -38,7 +38,7 @@ impl Written {
         match self {
             Written::Nothing => 0,
             Written::Byte(_) => 1,
-            Written::Word(_) => 2,
+            Written::Doubleword(_) => 2,
         }
     }
 
@@ -50,17 +50,17 @@ impl Written {
         match self {
             Written::Nothing => {}
             Written::Byte(byte) => bytes.push(byte.cast_unsigned()),
-            Written::Word(word) => append_word(word, bytes),
+            Written::Doubleword(doubleword) => append_doubleword(doubleword, bytes),
         }
     }
 }
 
 // The four bytes of a displacement, the lowest first, after these.
-pub(crate) fn append_word(word: i32, bytes: &mut ArrayVec<u8, 6>)
+pub(crate) fn append_doubleword(doubleword: i32, bytes: &mut ArrayVec<u8, 6>)
     requires { array_vec_len bytes.old ≤ 2 }
-    ensures { bytes.new.items ≡ bytes.old.items ++ word_bytes (word_of word) }
+    ensures { bytes.new.items ≡ bytes.old.items ++ doubleword_bytes (doubleword_of doubleword) }
 {
-    let [lowest, second, third, highest] = word.to_le_bytes();
+    let [lowest, second, third, highest] = doubleword.to_le_bytes();
     bytes.push(lowest);
     bytes.push(second);
     bytes.push(third);

@@ -6,7 +6,7 @@ ghost use Rattle.x86_address.specs.Place.{place_bytes, NoBase, Rip, Numbered, At
 ghost use Rattle.x86_address.specs.Shortest.{plain, plain_base, base_register, plain_index, exponent_of, exponent_field, index_field, place_of_base, shortest, is_upper, x_of_index, b_of_base, x_of, b_of, IsBase, IsIndex};
 ghost use Rattle.x86_address.specs.Spells.{SpellsAddress, BaseFits, IsScale, IsPower, IndexFits, HasModRM};
 
-use crate::displacement::{Written, append_word};
+use crate::displacement::{Written, append_doubleword};
 use arrayvec::ArrayVec;
 use x86_operand::{Address, Index, RegSpec, RegisterBank};
 
@@ -128,7 +128,7 @@ fn baseless(index: Option<Index>, disp: i32) -> ArrayVec<u8, 6>
     let mut bytes = ArrayVec::new();
     bytes.push(packed(0, 0, 4));
     bytes.push(sib(index, 5));
-    append_word(disp, &mut bytes);
+    append_doubleword(disp, &mut bytes);
     bytes
 }
 
@@ -138,7 +138,7 @@ fn rip_based(disp: i32) -> ArrayVec<u8, 6>
 {
     let mut bytes = ArrayVec::new();
     bytes.push(packed(0, 0, 5));
-    append_word(disp, &mut bytes);
+    append_doubleword(disp, &mut bytes);
     bytes
 }
 

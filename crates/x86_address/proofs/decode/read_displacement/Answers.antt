@@ -14,4 +14,4 @@ pub returns-in_default-clause-read : goal.returns-in_default-clause-read
 returns-in_default-clause-read g c =
     let some : c.args.mode ≢ 0 = omega arith in
     let more : c.args.mode ≢ 1 = omega arith in
-    if_ok_wider _ _ c.read_word.result (λ disp word. record { value = _; reads = reads_long some more word.reads; is = word.is }) c.read_word.ensures.read
+    if_ok_wider _ _ c.read_doubleword.result (λ disp doubleword. record { value = _; reads = reads_long some more doubleword.reads; is = doubleword.is }) c.read_doubleword.ensures.read
