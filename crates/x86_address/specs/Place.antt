@@ -4,7 +4,7 @@ use Rattle.x86_operand.specs.Kind.{Kind, WithoutModRM, InRegister, InMemory}
 use Rattle.x86_address.specs.Bytes.{bit, doubleword_bytes, Displacement, Absent, Short, Long, IsDisplacement, displacement_bytes, displacement_value}
 
 -- how the bytes from ModRM on name the operand E, by its fields: rm of ModRM, or the scale's exponent k, the index
--- field i and the base field j of SIB, and the displacement (SDM volume 2, tables 2-2 and 2-3)
+-- field i and the base field j of SIB, and the displacement (Intel SDM volume 2, tables 2-2 and 2-3)
 pub data Place : Type 0 where
   NoPlace : Place
   Direct : (rm : ℕ) → Place
@@ -23,6 +23,7 @@ kind_of (Scaled k i j d) = InMemory
 kind_of (Baseless k i n) = InMemory
 
 -- with mod 0 the base field 5 has another meaning, so a base 5 is written with a displacement
+-- (Intel SDM volume 2, section 2.1.5)
 abbrev pub MayBeBase : ℕ → Displacement → Type 0
 MayBeBase field Absent = field ≢ 5
 MayBeBase field (Short n) = Unit {0}
@@ -43,7 +44,7 @@ mod_of_displacement Absent = 0
 mod_of_displacement (Short n) = 1
 mod_of_displacement (Long n) = 2
 
--- the mod field of ModRM
+-- the mod field of ModRM (Intel SDM volume 2, section 2.1.3)
 abbrev pub mod_of : Place → ℕ
 mod_of NoPlace = 0
 mod_of (Direct rm) = 3
@@ -52,7 +53,7 @@ mod_of (RipBased n) = 0
 mod_of (Scaled k i j d) = mod_of_displacement d
 mod_of (Baseless k i n) = 0
 
--- the rm field of ModRM
+-- the rm field of ModRM (Intel SDM volume 2, section 2.1.3)
 abbrev pub rm_of : Place → ℕ
 rm_of NoPlace = 0
 rm_of (Direct rm) = rm
@@ -99,11 +100,13 @@ kind_of_target NoTarget = WithoutModRM
 kind_of_target (Number n) = InRegister
 kind_of_target (At a) = InMemory
 
--- index field and X: the number 4 means no index, and the scale then plays no part
+-- the index of exponent, index field and X: the number 4 means no index, and the scale then plays no part
+-- (Intel SDM volume 2, section 2.1.5)
 abbrev pub index_of : ℕ → ℕ → Bool → Option (ℕ × ℕ)
 index_of k i x = if i + 8 * bit x == 4 then None else Some (i + 8 * bit x, 2 ^ k)
 
--- what a place names, with the bits X and B of the prefix (SDM volume 2, sections 2.1.5 and 2.2.1.6)
+-- what a place names, with the bits X and B of the prefix
+-- (Intel SDM volume 2, sections 2.1.5, 2.2.1.6, 2.3.5.3, 2.3.5.4 and 2.3.8)
 abbrev pub target : Place → Bool → Bool → Target
 target NoPlace x b = NoTarget
 target (Direct rm) x b = Number (rm + 8 * bit b)

@@ -28,41 +28,47 @@ take_doubleword bytes = do
   d ← take_byte c.1
   Ok (a.0 + 256 * b.0 + 65536 * c.0 + 16777216 * d.0, d.1)
 
--- a displacement as long as the field mod says
+-- a displacement of one byte
 abbrev pub take_short : List ℕ → Reading Displacement
 take_short bytes = do
   n ← take_byte bytes
   Ok (Short n.0, n.1)
 
+-- a displacement of four bytes
 abbrev pub take_long : List ℕ → Reading Displacement
 take_long bytes = do
   n ← take_doubleword bytes
   Ok (Long n.0, n.1)
 
+-- a displacement as long as the field mod says
 abbrev pub take_displacement : ℕ → List ℕ → Reading Displacement
 take_displacement mode bytes = if mode == 0 then Ok (Absent, bytes) else if mode == 1 then take_short bytes else take_long bytes
 
--- an address by SIB
+-- what follows SIB where it names no base: a displacement of four bytes
 abbrev pub take_baseless : ℕ → List ℕ → Reading Place
 take_baseless sib bytes = do
   n ← take_doubleword bytes
   Ok (Baseless (sib / 64) ((sib / 8) % 8) n.0, n.1)
 
+-- what follows SIB where it names a base: a displacement as long as mod says
 abbrev pub take_scaled : ℕ → ℕ → List ℕ → Reading Place
 take_scaled mode sib bytes = do
   d ← take_displacement mode bytes
   Ok (Scaled (sib / 64) ((sib / 8) % 8) (sib % 8) d.0, d.1)
 
+-- an address by SIB, which names no base where mod is 0 and its base field 5
 abbrev pub take_sib : ℕ → List ℕ → Reading Place
 take_sib mode bytes = do
   sib ← take_byte bytes
   if mode == 0 && sib.0 % 8 == 5 then take_baseless sib.0 sib.1 else take_scaled mode sib.0 sib.1
 
+-- an address from the instruction pointer: a displacement of four bytes
 abbrev pub take_rip_based : List ℕ → Reading Place
 take_rip_based bytes = do
   n ← take_doubleword bytes
   Ok (RipBased n.0, n.1)
 
+-- an address from the base register that rm names: a displacement as long as mod says
 abbrev pub take_based : ℕ → ℕ → List ℕ → Reading Place
 take_based mode rm bytes = do
   d ← take_displacement mode bytes

@@ -8,32 +8,37 @@ use Rattle.x86_operand.specs.Register.{Register}
 use Rattle.x86_address.specs.Bytes.{Displacement, Absent, Short, Long}
 use Rattle.x86_address.specs.Place.{Place, NoPlace, Direct, Based, RipBased, Scaled, Baseless, Base, NoBase, Rip, Numbered, PlainAddress, Target, NoTarget, Number, At}
 
--- an address without the banks of its registers: a register of bank RIP is the instruction pointer
+-- the base that a register of this bank with this number is: the instruction pointer in bank RIP
 abbrev pub base_in : RegisterBank → ℕ → Base
 base_in RIP n = Rip
 base_in _ n = Numbered n
 
+-- the base of an address without its bank
 abbrev pub plain_base : Option Register → Base
 plain_base None = NoBase
 plain_base (Some reg) = base_in reg.bank reg.num
 
+-- the index of an address without its bank: the register's number, and the scale
 abbrev pub plain_index : Option Index → Option (ℕ × ℕ)
 plain_index None = None
 plain_index (Some index) = Some (index.reg.num, index.scale)
 
+-- an address without the banks of its registers
 abbrev pub plain : Address → PlainAddress
 plain a = record { base = plain_base a.base; index = plain_index a.index; disp = a.disp }
 
--- an address with its base in bank Q or RIP, and its index in this bank
+-- the register that a base is: none, the instruction pointer, or the one of bank Q with its number
 abbrev pub base_register : Base → Option Register
 base_register NoBase = None
 base_register Rip = Some (record { bank = RIP; num = 0 })
 base_register (Numbered n) = Some (record { bank = Q; num = n })
 
+-- an index with its register in this bank
 abbrev pub index_register : RegisterBank → Option (ℕ × ℕ) → Option Index
 index_register bank None = None
 index_register bank (Some index) = Some (record { reg = record { bank = bank; num = index.0 }; scale = index.1 })
 
+-- an address with its base in bank Q or RIP, and its index in this bank
 abbrev pub in_banks : RegisterBank → PlainAddress → Address
 in_banks bank a = record { base = base_register a.base; index = index_register bank a.index; disp = a.disp }
 
@@ -49,15 +54,16 @@ shortest_displacement must (pos n) =
 shortest_displacement must (negsuc n) =
     if nat_lt n 128 then Short (255 - n) else Long (doubleword_of (negsuc n))
 
--- the exponent k of a scale 2 to the power k
+-- the exponent k of a scale 2 to the power k, for the scales 1, 2, 4 and 8
 abbrev pub exponent_of : ℕ → ℕ
 exponent_of scale = if scale == 8 then 3 else if scale == 4 then 2 else if scale == 2 then 1 else 0
 
--- the fields of SIB for an index: exponent 0 and number 4 for none
+-- the exponent in SIB for an index, and 0 for none
 abbrev pub exponent_field : Option (ℕ × ℕ) → ℕ
 exponent_field None = 0
 exponent_field (Some index) = exponent_of index.1
 
+-- the index field of SIB for an index, and 4 for none
 abbrev pub index_field : Option (ℕ × ℕ) → ℕ
 index_field None = 4
 index_field (Some index) = index.0 % 8
@@ -74,38 +80,40 @@ place_of_numbered n index disp =
     then Scaled (exponent_field index) (index_field index) (n % 8) (shortest_displacement (n % 8 == 5) disp)
     else Based (n % 8) (shortest_displacement (n % 8 == 5) disp)
 
+-- the least place that can name the address with this base, index and displacement, where a place can
 abbrev pub place_of_base : Base → Option (ℕ × ℕ) → ℤ → Place
 place_of_base NoBase index disp = Baseless (exponent_field index) (index_field index) (doubleword_of disp)
 place_of_base Rip index disp = RipBased (doubleword_of disp)
 place_of_base (Numbered n) index disp = place_of_numbered n index disp
 
--- the least place that can name this target; one that names it not, where no place does
+-- the least place that can name this target; where no place does, some other place
 unfoldable pub shortest : Target → Place
 shortest NoTarget = NoPlace
 shortest (Number n) = Direct (n % 8)
 shortest (At a) = place_of_base a.base a.index a.disp
 
--- whether a number is one of the upper eight of its bank, which a prefix bit says
+-- whether bit 3 of a number is set, which a prefix bit says
 abbrev pub is_upper : ℕ → Bool
 is_upper n = (n / 8) % 2 == 1
 
--- the bit X that the index demands
+-- the bit X that the index demands, and false where there is none
 abbrev pub x_of_index : Option (ℕ × ℕ) → Bool
 x_of_index None = false
 x_of_index (Some index) = is_upper index.0
 
--- the bit B that the base demands
+-- the bit B that the base demands, and false where it demands none
 abbrev pub b_of_base : Base → Bool
 b_of_base NoBase = false
 b_of_base Rip = false
 b_of_base (Numbered n) = is_upper n
 
--- the bits X and B that a target demands, and false where it demands none
+-- the bit X that a target demands, and false where it demands none
 abbrev pub x_of : Target → Bool
 x_of NoTarget = false
 x_of (Number n) = false
 x_of (At a) = x_of_index a.index
 
+-- the bit B that a target demands, and false where it demands none
 abbrev pub b_of : Target → Bool
 b_of NoTarget = false
 b_of (Number n) = is_upper n

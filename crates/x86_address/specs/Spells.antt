@@ -42,8 +42,8 @@ abbrev pub IndexFits : Option Index → Type 0
 IndexFits None = Unit {0}
 IndexFits (Some index) = (index.reg.bank ≡ Q) × (index.reg.num ≢ 4) × IsScale index.scale
 
--- the bytes of a place in memory begin with ModRM, whose field reg is 0: with another field it is 8 times that field more,
--- and still below C0 hex
+-- the bytes of a place in memory begin with ModRM, whose field reg is 0: with another field it is 8 times that field
+-- more, and still below C0 hex
 pub record HasModRM (bytes : List ℕ) (place : Place) : Type 0 where
   pub modrm : ℕ
   pub rest : List ℕ

@@ -1,3 +1,4 @@
+-- A displacement as the code holds it: only private functions cite this.
 use Rattle.std.specs.Int.{cast_unsigned, w8}
 use Rattle.x86_address.specs.Bytes.{Displacement, Absent, Short, Long}
 use Rattle.x86_address.specs.Shortest.{doubleword_of}

@@ -13,11 +13,11 @@ ghost use Rattle.x86_address.specs.Reads.{Reads, ReadsSome, FallsShort, ExactOve
 use x86_operand::{Address, DecodeError, Index, RegSpec, RegisterBank};
 use x86_reader::Reader;
 
-/// Reads the ModRM byte.
+/// Reads the ModRM byte (Intel SDM volume 2, section 2.1.3).
 ///
 /// Both numbers of the reader rise by 1 after `Ok`, and are as before after an error. `ExhaustedInput` comes only where
-/// the reader's count of refusals rose in this call or stands at its last value; over a `U8Reader`, exactly where no byte
-/// is left. No other error comes.
+/// the reader's count of refusals rose in this call or stands at its last value; over a `U8Reader`, exactly where no
+/// byte is left. No other error comes.
 pub fn read_modrm<R: Reader>(words: &mut R) -> Result<u8, DecodeError>
     ensures taken { IfOk result (λ byte. Takes (R.state words.old) (R.state words.new) (byte ∷ [])) }
     ensures error { IfErr result (λ error. error ≡ DecodeError.ExhaustedInput) }
@@ -37,12 +37,12 @@ pub fn read_modrm<R: Reader>(words: &mut R) -> Result<u8, DecodeError>
 ///
 /// SIB follows where the field rm is 4. A displacement follows with mod 1 (8 bits, sign extended) and with mod 2 (32
 /// bits); with mod 0 only where rm is 5, which means the instruction pointer, or the base of SIB is 5, which means no
-/// base: then it has 32 bits, and B is ignored. The index 4 means no index, whatever the scale. (Intel SDM, volume 2,
-/// sections 2.1.3 to 2.1.5 and 2.2.1, tables 2-2 and 2-3.)
+/// base: then it has 32 bits, and B is ignored. The index 4 means no index, whatever the scale. (Intel SDM volume 2,
+/// tables 2-2 and 2-3, and sections 2.1.3 to 2.1.5, 2.2.1.6, 2.3.5.3, 2.3.5.4 and 2.3.8.)
 ///
 /// Both numbers of the reader rise by the number of bytes taken, at most 5. `ExhaustedInput` comes only where the
-/// reader's count of refusals rose in this call or stands at its last value; over a `U8Reader`, exactly where a byte that
-/// the case wants isn't there, and then none is left. No other error comes.
+/// reader's count of refusals rose in this call or stands at its last value; over a `U8Reader`, exactly where a byte
+/// that the case wants isn't there, and then none is left. No other error comes.
 pub fn read_address<R: Reader>(
     words: &mut R,
     modrm: u8,
@@ -74,11 +74,11 @@ pub fn read_address<R: Reader>(
     read_by_fields(words, modrm / 64, modrm % 8, x, b)
 }
 
-/// Reads the immediate byte.
+/// Reads the immediate byte (Intel SDM volume 2, section 2.1.4).
 ///
 /// Both numbers of the reader rise by 1 after `Ok`, and are as before after an error. `ExhaustedInput` comes only where
-/// the reader's count of refusals rose in this call or stands at its last value; over a `U8Reader`, exactly where no byte
-/// is left. No other error comes.
+/// the reader's count of refusals rose in this call or stands at its last value; over a `U8Reader`, exactly where no
+/// byte is left. No other error comes.
 pub fn read_imm<R: Reader>(words: &mut R) -> Result<u8, DecodeError>
     ensures taken { IfOk result (λ byte. Takes (R.state words.old) (R.state words.new) (byte ∷ [])) }
     ensures error { IfErr result (λ error. error ≡ DecodeError.ExhaustedInput) }

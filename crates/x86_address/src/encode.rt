@@ -142,7 +142,8 @@ fn rip_based(disp: i32) -> ArrayVec<u8, 6>
     bytes
 }
 
-// The bytes of an address with a base register. Its low bits 4 in ModRM mean SIB, and its low bits 5 with mod 0 no base.
+// The bytes of an address with a base register. Its low bits 4 in ModRM mean SIB, and its low bits 5 with mod 0 no
+// base.
 fn based(num: u8, index: Option<Index>, disp: i32) -> ArrayVec<u8, 6>
     ensures { result.items ≡ place_bytes 0 (place_of_base (Numbered num) (plain_index index) disp) }
 {
@@ -175,7 +176,7 @@ fn address_bytes(base: Option<RegSpec>, index: Option<Index>, disp: i32) -> Arra
 /// SIB stands only where there is an index, or the base's number is 4 or 12, or there is no base; it says scale 1 where
 /// there is no index. There is no displacement where it is 0 and the base is a register other than 5 and 13; it has one
 /// byte from -128 to 127, and else four, as it always has with the instruction pointer or no base. X and B are 0 where
-/// nothing demands them. (Intel SDM, volume 2, sections 2.1.3 to 2.1.5 and 2.2.1.)
+/// nothing demands them. (Intel SDM volume 2, sections 2.1.3 to 2.1.5, 2.2.1.6, 2.3.5.3, 2.3.5.4 and 2.3.8.)
 ///
 /// `None` exactly where no address bytes spell the address. These are the cases:
 /// - The base is a register that is neither of bank `Q` nor the instruction pointer.

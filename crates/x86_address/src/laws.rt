@@ -13,8 +13,8 @@ pub fn shortest_is_least()
     ensures { ShortestIsLeast }
 {}
 
-/// The bits X and B of a prefix are fixed by what is named, or play no part in it; so where some bytes name it with both
-/// 0, the shortest place does too.
+/// The bits X and B of a prefix are fixed by what is named, or play no part in it; so where some bytes name it with
+/// both 0, the shortest place does too.
 pub fn prefix_bits_are_fixed()
     ensures x { XIsFixed }
     ensures b { BIsFixed }

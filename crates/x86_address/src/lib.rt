@@ -1,4 +1,4 @@
-//! Addresses as they are written: ModRM, SIB and displacement, after the Intel SDM, volume 2, sections 2.1 and 2.2.
+//! Addresses as they are written: ModRM, SIB and displacement, after Intel SDM volume 2, sections 2.1 to 2.3.
 #![tactic(auto)]
 
 mod decode;
