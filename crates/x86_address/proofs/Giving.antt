@@ -72,6 +72,11 @@ pub on_err : {A E : Type 0} {P : Type 0} (result : Result A E) → P → OnErr r
 on_err (Ok value) p = tt
 on_err (Err e) p = p
 
+-- what holds on an error, holds there where it is wider
+pub on_err_wider : {A E : Type 0} {P Wider : Type 0} (result : Result A E) → (P → Wider) → OnErr result P → OnErr result Wider
+on_err_wider (Ok value) wider h = tt
+on_err_wider (Err e) wider h = wider h
+
 -- an answer that is given again
 returned : {A : Type 0} (reading : Reading A) → reading ≡ (reading >>= (λ read. Ok (read.0, read.1)))
 returned (Ok read) = refl

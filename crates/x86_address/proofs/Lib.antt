@@ -7,4 +7,5 @@ pub mod Examples
 pub mod Spelling
 pub mod Encodable
 pub mod Giving
+pub mod Completing
 pub mod Taken

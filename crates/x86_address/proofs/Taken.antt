@@ -2,7 +2,7 @@
 use Rattle.std.proofs.Common.{◌≡◌, ◌∙◌, ap, sym, subst, ne_eqb, arith, refl, ℕ, Bool, true, false, ◌/◌, ◌%◌, ◌<◌, ◌==◌, ◌&&◌, if◌then◌else◌, List, [], ◌∷◌, ◌++◌, length, Result, Ok, Err, IsErr, OnErr, OnOk, Some, append-nil}
 use Rattle.std.proofs.lemmas.List.Elements.{recursion_from_All}
 use Rattle.std.specs.Io.KnownBytes.{prepend_known}
-use Rattle.x86_operand.specs.Kind.{Kind}
+use Rattle.x86_operand.specs.Kind.{Kind, InMemory}
 use Rattle.x86_operand.specs.declared.error.DecodeError.{DecodeError}
 use Rattle.x86_operand.specs.declared.error.DecodeError.TheVariants.{ExhaustedInput}
 use Rattle.x86_operand.specs.declared.address.Address.{Address}
@@ -11,14 +11,15 @@ use Rattle.x86_reader.specs.Reader.{ReaderState, IsByte, Takes, Stops, CountsRef
 use Rattle.x86_reader.specs.SliceReader.{SliceReader, slice_state}
 use Rattle.x86_reader.proofs.Taking.{Stops-slice}
 use Rattle.x86_address.specs.Bytes.{IsBytes, Short, Long}
-use Rattle.x86_address.specs.Place.{Place, tail_of, Target, SpellsTarget}
+use Rattle.x86_address.specs.Place.{Place, kind_of, tail_of, PlainAddress, Target, NoTarget, Number, At, kind_of_target, target, SpellsTarget}
 use Rattle.x86_address.specs.Shortest.{plain, in_banks}
-use Rattle.x86_address.specs.Reading.{Reading, ◌>>=◌, take_byte, take_doubleword, take_displacement, take_baseless, take_scaled, take_sib, take_place}
+use Rattle.x86_address.specs.Reading.{Reading, take_byte, take_doubleword, take_displacement, take_baseless, take_scaled, take_sib, take_place}
 use Rattle.x86_address.specs.Reads.{Reads, ReadsSome, FallsShort, ExactOverSlice, NamesAddress, SpelledBy, CutShort}
 use Rattle.x86_address.proofs.Fields.{high_field_below, low_field_below}
-use Rattle.x86_address.proofs.PlaceBytes.{has_modrm, place_bytes_split, place_bytes_none, tail_length}
+use Rattle.x86_address.proofs.PlaceBytes.{IsBytes-append, has_modrm, place_bytes_split, place_bytes_none, tail_length}
 use Rattle.x86_address.proofs.Reading.{take_place-written, modrm-written, modrm-again}
-use Rattle.x86_address.proofs.Shortest.{plain-in_banks}
+use Rattle.x86_address.proofs.Shortest.{kind_of_target-target, plain-in_banks}
+use Rattle.x86_address.proofs.Completing.{fails_before, completable_place}
 
 -- the bytes that a `U8Reader` gave stood first in what was left
 stood_first : {old new : ReaderState} (before after : SliceReader) {bytes : List ℕ} → Takes old new bytes → old ≡ slice_state before → new ≡ slice_state after → before.left ≡ bytes ++ after.left
@@ -48,6 +49,24 @@ exact (Err e) ok err before after is_old is_new = exact_err e err is_old is_new
 IsBytes-taken : {old new : ReaderState} {bytes : List ℕ} → Takes old new bytes → IsBytes bytes
 IsBytes-taken {bytes = bytes} takes = recursion_from_All IsByte bytes takes.passes.each
 
+-- a place that is read after a ModRM byte of memory is in memory
+kind_in_memory : (modrm : ℕ) (bytes : List ℕ) (place : Place) → modrm < 192 → IsBytes bytes → take_place (modrm / 64) (modrm % 8) bytes ≡ Ok (place, []) → kind_of place ≡ InMemory
+kind_in_memory modrm bytes place memory are read =
+    (modrm-written modrm bytes (omega arith) are place [] read).kind_is ∙ rw (ne_eqb (modrm / 64) 3 (omega arith)) refl
+
+-- bytes that are read whole as a place spell with ModRM what that names
+spells_place : (modrm : ℕ) (bytes : List ℕ) (place : Place) {x b : Bool} {e : Target} → modrm < 192 → IsBytes bytes → take_place (modrm / 64) (modrm % 8) bytes ≡ Ok (place, []) → target place x b ≡ e → SpellsTarget (modrm ∷ bytes) InMemory ((modrm / 8) % 8) x b e
+spells_place modrm bytes place memory are read names =
+    let spelled = modrm-written modrm bytes (omega arith) are place [] read in
+    record {
+      is_reg = low_field_below (modrm / 8);
+      place = place;
+      is_place = spelled.is_place;
+      is_kind = kind_in_memory modrm bytes place memory are read;
+      written = spelled.written ∙ append-nil _;
+      names = sym names;
+    }
+
 -- what was read after ModRM spells the address
 pub spelled_by : {modrm : ℕ} {x b : Bool} {address : Address} {old new : ReaderState} → modrm < 192 → ReadsSome (take_place (modrm / 64) (modrm % 8)) (λ place. NamesAddress place x b address) old new → SpelledBy modrm x b address old new
 spelled_by {modrm} {x} {b} {address} memory read =
@@ -56,21 +75,13 @@ spelled_by {modrm} {x} {b} {address} memory read =
     let are = IsBytes-taken reads.takes in
     let again = ap (take_place (modrm / 64) (modrm % 8)) (sym (append-nil bytes)) ∙ reads.answers [] in
     let stood = take_place-written (modrm / 64) (modrm % 8) bytes (high_field_below modrm (omega arith)) (low_field_below modrm) are read.value [] again in
-    let spelled = modrm-written modrm bytes (omega arith) are read.value [] again in
     record {
       bytes = bytes;
       takes = reads.takes;
       most = rw (stood.written, append-nil) (tail_length read.value);
       spells = record {
         plain_address = read.is.plain_address;
-        spells = record {
-          is_reg = low_field_below (modrm / 8);
-          place = read.value;
-          is_place = spelled.is_place;
-          is_kind = spelled.kind_is ∙ rw (ne_eqb (modrm / 64) 3 (omega arith)) refl;
-          written = spelled.written ∙ append-nil _;
-          names = sym read.is.names;
-        };
+        spells = spells_place modrm bytes read.value memory are again read.is.names;
         banks = read.is.banks;
       };
     }
@@ -95,11 +106,6 @@ most_doubleword (a ∷ []) h = omega arith
 most_doubleword (a ∷ b ∷ []) h = omega arith
 most_doubleword (a ∷ b ∷ c ∷ []) h = omega arith
 most_doubleword (a ∷ b ∷ c ∷ d ∷ bytes) h = cc
-
--- a step whose value is turned into one more fails where it fails
-fails_before : {A B : Type 0} (f : A → B) (reading : Reading A) → IsErr (reading >>= (λ read. Ok (f read.0, read.1))) → IsErr reading
-fails_before f (Ok read) h = cc
-fails_before f (Err error) h = refl
 
 most_if : {A : Type 0} {n : ℕ} (test : Bool) (one other : List ℕ → Reading A) → TakesAtMost n one → TakesAtMost n other → TakesAtMost n (λ bytes. if test then one bytes else other bytes)
 most_if true one other p q = p
@@ -131,12 +137,21 @@ read_whole {modrm} {bytes} {reg = reg} s =
     let parts = same_parts modrm _ bytes (tail_of s.place) (s.written ∙ place_bytes_split reg s.place has) in
     ap (take_place (modrm / 64) (modrm % 8)) (parts.1 ∙ sym (append-nil (tail_of s.place))) ∙ modrm-again reg s.place modrm [] s.is_reg s.is_place has parts.0
 
--- where the reader stopped, more bytes are wanted in whatever spelling begins so
-pub cut_short : {modrm : ℕ} {old new : ReaderState} → FallsShort (take_place (modrm / 64) (modrm % 8)) old new → CutShort modrm old new
-cut_short {modrm} short =
+-- what is in memory is an address
+address_in_memory : (e : Target) → kind_of_target e ≡ InMemory → (a : PlainAddress) × (e ≡ At a)
+address_in_memory NoTarget h = cc
+address_in_memory (Number n) h = cc
+address_in_memory (At a) h = (a, refl)
+
+-- where the reader stopped, some address begins so, and more bytes are wanted in whatever spelling begins so
+pub cut_short : {modrm : ℕ} {x b : Bool} {old new : ReaderState} → modrm < 192 → FallsShort (take_place (modrm / 64) (modrm % 8)) old new → CutShort modrm x b old new
+cut_short {modrm} {x} {b} memory short =
     let step = take_place (modrm / 64) (modrm % 8) in
     let failed : IsErr (step short.bytes) = rw short.wants refl in
     let most = most_place (modrm / 64) (modrm % 8) short.bytes failed in
+    let more = completable_place (modrm / 64) (modrm % 8) short.bytes failed in
+    let are = IsBytes-append short.bytes more.missing (recursion_from_All IsByte short.bytes short.stops.passes.each) more.are in
+    let named = address_in_memory (target more.value x b) (kind_of_target-target more.value x b ∙ kind_in_memory modrm (short.bytes ++ more.missing) more.value memory are more.answers) in
     record {
       bytes = short.bytes;
       stops = short.stops;
@@ -147,6 +162,13 @@ cut_short {modrm} short =
           let lacking = short.wants in
           let read = sym (ap step same) ∙ whole in
           cc;
+      missing = more.missing;
+      address = in_banks Q named.0;
+      spells = record {
+        plain_address = named.0;
+        spells = spells_place modrm (short.bytes ++ more.missing) more.value memory are more.answers named.1;
+        banks = refl;
+      };
     }
 
 -- a step that lacks a byte has counted a refusal

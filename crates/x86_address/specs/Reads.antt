@@ -49,9 +49,13 @@ pub record SpelledBy (modrm : ℕ) (x b : Bool) (address : Address) (old new : R
   pub most : length bytes ≤ 5
   pub spells : SpellsAddress (modrm ∷ bytes) ((modrm / 8) % 8) x b address
 
--- the reader gave fewer bytes, at most four, than follow ModRM in whatever bytes begin so and spell anything
-pub record CutShort (modrm : ℕ) (old new : ReaderState) : Type 0 where
+-- the reader gave at most four of the bytes that follow ModRM in some spelling of an address with these bits X and B,
+-- and fewer than follow it in whatever bytes begin so and spell anything
+pub record CutShort (modrm : ℕ) (x b : Bool) (old new : ReaderState) : Type 0 where
   pub bytes : List ℕ
   pub stops : Stops old new bytes
   pub most : length bytes ≤ 4
-  pub fewer : (rest : List ℕ) (kind : Kind) (reg : ℕ) (x b : Bool) (e : Target) → SpellsTarget (modrm ∷ (bytes ++ rest)) kind reg x b e → rest ≢ []
+  pub missing : List ℕ
+  pub address : Address
+  pub spells : SpellsAddress (modrm ∷ (bytes ++ missing)) ((modrm / 8) % 8) x b address
+  pub fewer : (rest : List ℕ) (kind : Kind) (reg : ℕ) (other_x other_b : Bool) (e : Target) → SpellsTarget (modrm ∷ (bytes ++ rest)) kind reg other_x other_b e → rest ≢ []

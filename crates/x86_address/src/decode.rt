@@ -58,8 +58,8 @@ pub fn read_address<R: Reader>(
     ensures error { IfErr result (λ error. error ≡ DecodeError.ExhaustedInput) }
     ensures counted { OnErr result (CountsRefusal (R.state words.old) (R.state words.new)) }
 
-    // After an error the bytes taken, at most 4, are fewer than the case wants.
-    ensures cut { OnErr result (CutShort modrm (R.state words.old) (R.state words.new)) }
+    // After an error the bytes taken, at most 4, begin those of an address, and are fewer than the case wants.
+    ensures cut { OnErr result (CutShort modrm x b (R.state words.old) (R.state words.new)) }
     ensures slice { (before after : SliceReader)
         → R.state words.old ≡ slice_state before → R.state words.new ≡ slice_state after
         → ExactOverSlice (take_place (modrm / 64) (modrm % 8)) result before after }
