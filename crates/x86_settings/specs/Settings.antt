@@ -1,6 +1,6 @@
 use Rattle.std.specs.Prelude.{ℕ}
 
--- The place of each setting's bit. Where two have the same place, each of them is set with the other.
+-- The place of each setting's bit. Where several have the same place, each of them is set with the others.
 
 -- 3DNow!
 abbrev pub _3dnow : ℕ

@@ -22,7 +22,7 @@ impl InstDecoder {
         self.with_bit(7)
     }
 
-    /// AVX2: integers in vectors of 256 bits, and gathers.
+    /// AVX2: integers in vectors of 256 bits, and gathers. No condition reads it: these opcodes need `avx` alone.
     pub fn avx2(&self) -> bool
         ensures { result ≡ is_set self.now avx2 }
     {
@@ -67,7 +67,8 @@ impl InstDecoder {
         self.with_bit(32)
     }
 
-    /// FMA3: fused multiply and add of three operands, as VFMADD132PS.
+    /// FMA3: fused multiply and add of three operands, as VFMADD132PS. No condition reads it: these opcodes need `avx`
+    /// alone.
     pub fn fma3(&self) -> bool
         ensures { result ≡ is_set self.now fma3 }
     {

@@ -11,7 +11,8 @@ ghost use Rattle.x86_settings.specs.Words.{bits};
 use std::marker::Model;
 
 /// The settings that an instruction is decoded by: 128 bits, each for an extension of x86 or a quirk.
-/// Contracts see them as the list of 128 truth values, bit 0 first.
+/// Contracts see them as the list of 128 truth values, bit 0 first. Which of them permit an opcode is stated in
+/// `x86_permit`; the others change no answer.
 #[derive(Clone, Copy, Debug)]
 pub struct InstDecoder {
     low: u64,
@@ -120,5 +121,5 @@ fn with_bit_set(word: u64, i: u8) -> u64
     requires { i < 64 }
     ensures { bits 64 result ≡ with_set (bits 64 word) i }
 {
-    word | 1 << i
+    word | (1 << i)
 }
