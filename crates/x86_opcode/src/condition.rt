@@ -1,3 +1,5 @@
+//! What permits an opcode, and whether a VEX prefix can have it.
+
 ghost use Rattle.std.specs.Prelude.{◌≡◌, ◌↔◌, ◌<◌, IsTrue, IfSome, Contains};
 ghost use Rattle.x86_opcode.specs.Condition.{opcode_condition};
 ghost use Rattle.x86_opcode.specs.Mark.{marked_bit};
@@ -95,7 +97,8 @@ impl Opcode {
         }
     }
 
-    /// The number of the settings bit that the opcode alone needs where it has the EVEX mark.
+    /// The settings bit that the opcode alone needs where it has the EVEX mark, 10, 11 or 16; `None` where it needs none
+    /// of its own.
     #[tactic(auto, unfolding(crate::specs::Mark::marked_bit))]
     pub fn marked_bit(self) -> Option<u8>
         ensures value { result ≡ marked_bit self }
