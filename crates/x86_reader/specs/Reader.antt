@@ -2,7 +2,8 @@
 use Rattle.std.specs.Prelude.{◌≡◌, ℕ, ◌+◌, ◌-◌, ◌^◌, ◌<◌, ◌≤◌, ◌⊎◌, List, length, Option, All}
 use Rattle.std.specs.Io.KnownBytes.{prepend_known}
 
--- what a reader shows: the bytes left, where it tells them; how many it has taken since it was made, and since its last mark; its count of refusals
+-- what a reader shows: the bytes left, where it tells them; how many it has taken since it was made, and since its last
+-- mark; its count of refusals
 pub record ReaderState : Type 0 where
   pub left : Option (List ℕ)
   pub total : ℕ
@@ -31,7 +32,8 @@ pub record ChangesOnlyCount (old new : ReaderState) : Type 0 where
 abbrev pub CountsRefusal : ReaderState → ReaderState → Type 0
 CountsRefusal old new = (old.refusals ≤ new.refusals) × ((old.refusals < new.refusals) ⊎ (new.refusals ≡ last_count))
 
--- the reader went past these bytes and no others: both numbers rose by how many they are, and where it tells its bytes, they stood first and the rest is left
+-- the reader went past these bytes and no others: both numbers rose by how many they are, and where it tells its bytes,
+-- they stood first and the rest is left
 pub record Passes (old new : ReaderState) (bytes : List ℕ) : Type 0 where
   pub each : All IsByte bytes
   pub left : old.left ≡ prepend_known bytes new.left

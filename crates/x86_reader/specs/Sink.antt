@@ -38,7 +38,8 @@ list_state s = record {
   room = most_kept - length s.kept;
 }
 
--- of all the triples that it was given, the list keeps the first 16 in order, and it is whole exactly where there were no more
+-- of all the triples that it was given, the list keeps the first 16 in order, and it is whole exactly where there were
+-- no more
 pub record HoldsFirst {D : Type 0} (given : List (Triple D)) (list : TripleList D) : Type 0 where
   pub kept : list.kept ≡ take most_kept given
   pub whole : IsTrue list.whole ↔ (length given ≤ most_kept)

@@ -2,7 +2,8 @@
 use Rattle.std.specs.Prelude.{◌≡◌, ◌≢◌, ◌⊎◌, ℕ, List, [], ◌∷◌, Some, Contains}
 use Rattle.x86_reader.specs.Reader.{ReaderState, Stops}
 
--- a `U8Reader`: the bytes left, how many it has taken since it was made, and since its last mark, and how often it has refused
+-- a `U8Reader`: the bytes left, how many it has taken since it was made, and since its last mark, and how often it has
+-- refused
 pub record SliceReader : Type 0 where
   pub left : List ℕ
   pub total : ℕ

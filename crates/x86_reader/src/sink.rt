@@ -9,7 +9,7 @@ use std::marker::Model;
 /// How many triples a `ListSink` keeps.
 const MOST_KEPT: usize = 16;
 
-/// Takes triples: a first bit, a last bit, and what stands there.
+/// Takes triples: the numbers of a first and a last bit, as the caller counts them, and what stands there.
 ///
 /// A sink that tells its triples after a call told them before. One that tells and has room still
 /// tells after it, and its room is one less.
