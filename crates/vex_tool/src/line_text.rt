@@ -1,4 +1,4 @@
-//! The text of a result line, put together in a fixed buffer.
+//! The text of a line of the output, put together in a fixed buffer.
 
 ghost use Rattle.std.specs.Prelude.{◌≡◌, ◌≤◌, ◌+◌, ◌++◌, length, decimal, unwrap_or};
 ghost use Rattle.std.specs.Fmt.{signed_decimal};
@@ -6,6 +6,7 @@ ghost use Rattle.arrayvec.specs.ArrayVec.{array_vec_len};
 ghost use Rattle.hex.specs.Hex.{encode_lower};
 ghost use Rattle.x86_opcode.specs.Name.{opcode_name};
 ghost use Rattle.x86_operand.specs.Meaning.{operand_meaning, memory};
+ghost use Rattle.vex_tool.specs.ErrorLine.{error_line};
 ghost use Rattle.vex_tool.specs.ResultLine.{register_text, base_text, index_text, operand_text, operands_text, instruction_line};
 
 use arrayvec::ArrayVec;
@@ -13,14 +14,14 @@ use itoa::Buffer;
 use vex_encode::Spelling;
 use x86_operand::{Address, Index, Instruction, Opcode, Operand, RegSpec, RegisterBank};
 
-/// How many bytes a result line has, at most.
+/// How many bytes a line of the output has, at most.
 pub const MAX_TEXT: usize = 256;
 
 /// The text of a line as far as it is put together.
 pub type LineText = ArrayVec<u8, MAX_TEXT>;
 
 /// Appends some bytes.
-pub fn push_all(text: &mut LineText, piece: &[u8])
+fn push_all(text: &mut LineText, piece: &[u8])
     requires { array_vec_len text.old + length piece.now ≤ 256 }
     ensures { text.new.items ≡ text.old.items ++ piece.now }
 {
@@ -28,7 +29,7 @@ pub fn push_all(text: &mut LineText, piece: &[u8])
 }
 
 /// Appends a number in decimal.
-pub fn push_number(text: &mut LineText, number: u8)
+fn push_number(text: &mut LineText, number: u8)
     requires { array_vec_len text.old + 3 ≤ 256 }
     ensures written { text.new.items ≡ text.old.items ++ decimal number }
     ensures short { array_vec_len text.new ≤ array_vec_len text.old + 3 }
@@ -197,6 +198,18 @@ pub fn instruction_text(instruction: &Instruction, spelling: &Spelling) -> LineT
     push_number(&mut text, size_of(instruction));
     push_all(&mut text, b" ");
     push_hex(&mut text, spelling.as_slice());
+    push_all(&mut text, b"\n");
+    text
+}
+
+/// The line of an error's name: `error`, a space, the name and a line end.
+pub fn error_text(name: &str) -> LineText
+    requires { length name.now ≤ 32 }
+    ensures { result.items ≡ error_line name.now }
+{
+    let mut text = LineText::new();
+    push_all(&mut text, b"error ");
+    push_all(&mut text, name.as_bytes());
     push_all(&mut text, b"\n");
     text
 }

@@ -7,6 +7,7 @@ ghost use Rattle.vex_tool.specs.Report.{report, code, code_report, digits, is_bl
 
 use crate::command::Command;
 use crate::ends::{Failed, Sink};
+use crate::line_text::error_text;
 use crate::result_line::write_result_line;
 use arrayvec::ArrayVec;
 
@@ -23,6 +24,18 @@ pub enum LineError {
     LongLine,
     /// Without blanks it is not an even number of hex digits.
     BadHex,
+}
+
+impl LineError {
+    /// The variant's own spelling.
+    pub fn name(&self) -> &'static str
+        ensures { result.now ≡ line_error_name self.now }
+    {
+        match self {
+            LineError::LongLine => "LongLine",
+            LineError::BadHex => "BadHex",
+        }
+    }
 }
 
 fn is_blank(byte: u8) -> bool
@@ -63,10 +76,7 @@ fn code_of(line: &[u8]) -> Result<ArrayVec<u8, MAX_CODE>, LineError>
 pub fn write_error<K: Sink>(error: LineError, sink: &mut K) -> Result<(), Failed>
     ensures { Writes result (K.text sink.old) (K.text sink.new) (K.faults sink.old) (K.faults sink.new) (error_line (line_error_name error)) }
 {
-    match error {
-        LineError::LongLine => sink.write_all(b"error LongLine\n"),
-        LineError::BadHex => sink.write_all(b"error BadHex\n"),
-    }
+    sink.write_all(error_text(error.name()).as_slice())
 }
 
 // Writes the report of a line that writes these bytes.

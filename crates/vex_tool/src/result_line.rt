@@ -1,28 +1,13 @@
 //! The result line of some code.
 
 ghost use Rattle.std.specs.Prelude.{◌≡◌};
-ghost use Rattle.x86_operand.specs.Errors.{decode_error_name};
 ghost use Rattle.vex_tool.specs.Ends.{Writes};
-ghost use Rattle.vex_tool.specs.ErrorLine.{error_line};
 ghost use Rattle.vex_tool.specs.ResultLine.{result_line};
 
 use crate::ends::{Failed, Sink};
-use crate::line_text::{LineText, instruction_text, push_all};
+use crate::line_text::{LineText, error_text, instruction_text};
 use vex_encode::recode;
-use x86_operand::DecodeError;
 use x86_settings::InstDecoder;
-
-// The line that names the error.
-fn error_text(error: DecodeError) -> &'static [u8]
-    ensures { result.now ≡ error_line (decode_error_name error) }
-{
-    match error {
-        DecodeError::ExhaustedInput => b"error ExhaustedInput\n",
-        DecodeError::InvalidOpcode => b"error InvalidOpcode\n",
-        DecodeError::InvalidOperand => b"error InvalidOperand\n",
-        DecodeError::Outside => b"error Outside\n",
-    }
-}
 
 // The result line of these bytes under settings.
 fn result_text(settings: &InstDecoder, bytes: &[u8]) -> LineText
@@ -30,11 +15,7 @@ fn result_text(settings: &InstDecoder, bytes: &[u8]) -> LineText
 {
     match recode(settings, bytes) {
         Ok((instruction, spelling)) => instruction_text(&instruction, &spelling),
-        Err(error) => {
-            let mut text = LineText::new();
-            push_all(&mut text, error_text(error));
-            text
-        }
+        Err(error) => error_text(error.name()),
     }
 }
 

@@ -1,4 +1,5 @@
-use Rattle.std.proofs.Common.{ap, sym, refl, ◌∙◌, ◌++◌}
+use Rattle.std.proofs.Common.{ap, sym, refl, ◌∙◌}
+use Rattle.vex_tool.specs.ErrorLine.{error_line}
 use Rattle.vex_tool.proofs.Results.{line-recoded, line-refused}
 use Rattle.vex_tool.proofs.result_line.result_text.Goals as goal
 
@@ -10,7 +11,6 @@ returns-in-Ok c =
 
 pub returns-in-Err : goal.returns-in-Err
 returns-in-Err c =
-    c.push_all.ensures
-    ∙ ap (λ t. t ++ c.error_text.result.now) c.new-text.ensures
-    ∙ c.error_text.ensures
+    c.error_text.ensures
+    ∙ ap error_line c.name.ensures
     ∙ sym (line-refused c.args.settings.now c.args.bytes.now c.in-Err.error c.in-Err.ensures.refused.0 c.in-Err.ensures.refused.1)
