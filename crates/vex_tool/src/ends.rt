@@ -4,6 +4,9 @@ ghost use Rattle.std.specs.Prelude.{◌≡◌, ℕ, ◌<◌, ◌≤◌, List, le
 ghost use Rattle.std.specs.Io.KnownBytes.{Appends, Consumes, Keeps, IsAtEnd};
 ghost use Rattle.vex_tool.specs.Ends.{RoseOrIsLast, AppendsFront, counted};
 
+/// How many bytes a read asks for, at most.
+pub const PIECE: usize = 4096;
+
 /// A read or a write failed.
 #[derive(Clone, Copy, PartialEq, Eq, Debug)]
 pub struct Failed;

@@ -5,15 +5,12 @@ ghost use Rattle.vex_tool.specs.Report.{report};
 ghost use Rattle.vex_tool.specs.Run.{Ran};
 
 use crate::command::Command;
-use crate::ends::{Failed, Sink, Source};
+use crate::ends::{Failed, PIECE, Sink, Source};
 use crate::line_buffer::{LineBuffer, feed, finish};
 use crate::status::Status;
 
 /// How many bytes a run takes, at most.
 pub const INPUT_LIMIT: usize = 1 << 26;
-
-/// How many bytes a read asks for, at most.
-const PIECE: usize = 4096;
 
 // How many bytes a read asks for: a piece, or what is left to the limit where that is less, and one byte
 // at the limit.

@@ -4,12 +4,9 @@ ghost use Rattle.std.specs.Prelude.{◌≡◌, ◌<◌, ◌≤◌, length, take,
 ghost use Rattle.std.specs.Io.KnownBytes.{Appends, Consumes, Keeps, IsAtEnd, ReadConsumes};
 ghost use Rattle.vex_tool.specs.Ends.{RoseOrIsLast, AppendsFront, counted};
 
-use crate::ends::{Failed, Sink, Source};
+use crate::ends::{Failed, PIECE, Sink, Source};
 use std::io::{Read, Write};
 use std::marker::Model;
-
-// How many bytes one read asks for, at most.
-const PIECE: usize = 4096;
 
 /// A source over a reader. Each call makes one read, and fails where that read does.
 #[derive(Drop)]
