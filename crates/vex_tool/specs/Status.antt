@@ -4,13 +4,13 @@ use Rattle.vex_tool.specs.declared.status.Status.{Status}
 use Rattle.vex_tool.specs.declared.status.Status.TheVariants.{Done, ReadFault, Usage, WriteFault, NoMemory, TooLong}
 
 -- the exit code of each status
-abbrev pub code_of : Status → ℕ
-code_of Done = 0
-code_of ReadFault = 1
-code_of Usage = 2
-code_of WriteFault = 3
-code_of NoMemory = 4
-code_of TooLong = 5
+abbrev pub exit_code_of : Status → ℕ
+exit_code_of Done = 0
+exit_code_of ReadFault = 1
+exit_code_of Usage = 2
+exit_code_of WriteFault = 3
+exit_code_of NoMemory = 4
+exit_code_of TooLong = 5
 
 -- the name of each status
 abbrev pub name_of : Status → List ℕ

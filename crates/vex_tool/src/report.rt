@@ -59,7 +59,7 @@ fn digits_of(line: &[u8]) -> ArrayVec<u8, MAX_LINE>
 }
 
 // The bytes that a line writes in hex digits.
-fn code_of(line: &[u8]) -> Result<ArrayVec<u8, MAX_CODE>, LineError>
+fn bytes_of_line(line: &[u8]) -> Result<ArrayVec<u8, MAX_CODE>, LineError>
     requires { length line.now ≤ MAX_LINE }
     ensures { MatchResult result (λ bytes. code line.now ≡ Ok bytes.items) (λ e. code line.now ≡ Err e) }
 {
@@ -94,7 +94,7 @@ pub fn write_report<K: Sink>(command: &Command, line: &[u8], sink: &mut K) -> Re
     requires { length line.now ≤ MAX_LINE }
     ensures { Writes result (K.text sink.old) (K.text sink.new) (K.faults sink.old) (K.faults sink.new) (report command.now line.now) }
 {
-    match code_of(line) {
+    match bytes_of_line(line) {
         Ok(bytes) => write_code_report(command, bytes.as_slice(), sink),
         Err(error) => write_error(error, sink),
     }

@@ -1,7 +1,7 @@
 //! How a run ends.
 
 ghost use Rattle.std.specs.Prelude.{◌≡◌};
-ghost use Rattle.vex_tool.specs.Status.{code_of, name_of};
+ghost use Rattle.vex_tool.specs.Status.{exit_code_of, name_of};
 
 /// How a run ends, with its exit code in this order from 0 on.
 #[derive(Clone, Copy, PartialEq, Eq, Debug)]
@@ -23,7 +23,7 @@ pub enum Status {
 impl Status {
     /// The exit code.
     pub fn code(&self) -> u8
-        ensures { result ≡ code_of self.now }
+        ensures { result ≡ exit_code_of self.now }
     {
         match self {
             Status::Done => 0,

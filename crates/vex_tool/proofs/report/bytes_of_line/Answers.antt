@@ -1,7 +1,7 @@
 use Rattle.std.proofs.Common.{◌≡◌, length, ap, ◌∙◌, arith}
 use Rattle.vex_tool.proofs.ReportLemmas.{IsDecoded, code-decoded, code-refused}
-use Rattle.vex_tool.proofs.report.code_of.Goals as goal
-use Rattle.vex_tool.proofs.report.code_of.Goals.{After-decode_to_slice}
+use Rattle.vex_tool.proofs.report.bytes_of_line.Goals as goal
+use Rattle.vex_tool.proofs.report.bytes_of_line.Goals.{After-decode_to_slice}
 
 -- what is known once the digits were decoded
 decoded : (c : After-decode_to_slice) → IsDecoded c.args.line.now c.as_slice.result.now c.truncate.new.self.items c.decode_to_slice.new.out c.decode_to_slice.result
