@@ -22,15 +22,16 @@ pub type LineText = ArrayVec<u8, MAX_TEXT>;
 
 /// Appends some bytes.
 fn push_all(text: &mut LineText, piece: &[u8])
-    requires { array_vec_len text.old + length piece.now ≤ 256 }
+    requires { array_vec_len text.old + length piece.now ≤ MAX_TEXT }
     ensures { text.new.items ≡ text.old.items ++ piece.now }
 {
+    // The caller leaves room.
     let _ = text.try_extend_from_slice(piece);
 }
 
 /// Appends a number in decimal.
 fn push_number(text: &mut LineText, number: u8)
-    requires { array_vec_len text.old + 3 ≤ 256 }
+    requires { array_vec_len text.old + 3 ≤ MAX_TEXT }
     ensures written { text.new.items ≡ text.old.items ++ decimal number }
     ensures short { array_vec_len text.new ≤ array_vec_len text.old + 3 }
 {
@@ -40,7 +41,7 @@ fn push_number(text: &mut LineText, number: u8)
 
 /// Appends a signed number in decimal.
 fn push_signed(text: &mut LineText, number: i32)
-    requires { array_vec_len text.old + 11 ≤ 256 }
+    requires { array_vec_len text.old + 11 ≤ MAX_TEXT }
     ensures written { text.new.items ≡ text.old.items ++ signed_decimal number }
     ensures short { array_vec_len text.new ≤ array_vec_len text.old + 11 }
 {
@@ -50,7 +51,7 @@ fn push_signed(text: &mut LineText, number: i32)
 
 /// Appends a register: the letter of its bank and its number, or `rip`.
 fn push_register(text: &mut LineText, reg: RegSpec)
-    requires { array_vec_len text.old + 4 ≤ 256 }
+    requires { array_vec_len text.old + 4 ≤ MAX_TEXT }
     ensures written { text.new.items ≡ text.old.items ++ register_text reg }
     ensures short { array_vec_len text.new ≤ array_vec_len text.old + 4 }
 {
@@ -70,7 +71,7 @@ fn push_register(text: &mut LineText, reg: RegSpec)
 
 /// Appends the base of an address, `-` for none.
 fn push_base(text: &mut LineText, base: Option<RegSpec>)
-    requires { array_vec_len text.old + 4 ≤ 256 }
+    requires { array_vec_len text.old + 4 ≤ MAX_TEXT }
     ensures written { text.new.items ≡ text.old.items ++ base_text base }
     ensures short { array_vec_len text.new ≤ array_vec_len text.old + 4 }
 {
@@ -82,7 +83,7 @@ fn push_base(text: &mut LineText, base: Option<RegSpec>)
 
 /// Appends the index of an address with its scale, `-` for none.
 fn push_index(text: &mut LineText, index: Option<Index>)
-    requires { array_vec_len text.old + 8 ≤ 256 }
+    requires { array_vec_len text.old + 8 ≤ MAX_TEXT }
     ensures written { text.new.items ≡ text.old.items ++ index_text index }
     ensures short { array_vec_len text.new ≤ array_vec_len text.old + 8 }
 {
@@ -98,7 +99,7 @@ fn push_index(text: &mut LineText, index: Option<Index>)
 
 /// Appends an address: `m`, its base, its index and its displacement.
 fn push_address(text: &mut LineText, address: &Address)
-    requires { array_vec_len text.old + 26 ≤ 256 }
+    requires { array_vec_len text.old + 26 ≤ MAX_TEXT }
     ensures written { text.new.items ≡ text.old.items ++ operand_text (memory address.now) }
     ensures short { array_vec_len text.new ≤ array_vec_len text.old + 26 }
 {
@@ -112,7 +113,7 @@ fn push_address(text: &mut LineText, address: &Address)
 
 /// Appends an operand.
 fn push_operand(text: &mut LineText, operand: &Operand)
-    requires { array_vec_len text.old + 26 ≤ 256 }
+    requires { array_vec_len text.old + 26 ≤ MAX_TEXT }
     ensures written { text.new.items ≡ text.old.items ++ operand_text (operand_meaning operand.now) }
     ensures short { array_vec_len text.new ≤ array_vec_len text.old + 26 }
 {
@@ -141,7 +142,7 @@ fn push_operand(text: &mut LineText, operand: &Operand)
 
 /// Appends the operands of an instruction, a space before each.
 fn push_operands(text: &mut LineText, instruction: &Instruction)
-    requires { array_vec_len text.old + 108 ≤ 256 }
+    requires { array_vec_len text.old + 108 ≤ MAX_TEXT }
     ensures written { text.new.items ≡ text.old.items ++ operands_text instruction.now.meaning.operands }
     ensures short { array_vec_len text.new ≤ array_vec_len text.old + 108 }
 {
@@ -153,7 +154,7 @@ fn push_operands(text: &mut LineText, instruction: &Instruction)
 
 /// Appends an opcode's name.
 fn push_name(text: &mut LineText, opcode: Opcode)
-    requires { array_vec_len text.old + 32 ≤ 256 }
+    requires { array_vec_len text.old + 32 ≤ MAX_TEXT }
     ensures written { text.new.items ≡ text.old.items ++ opcode_name opcode }
     ensures short { array_vec_len text.new ≤ array_vec_len text.old + 32 }
 {
@@ -163,7 +164,7 @@ fn push_name(text: &mut LineText, opcode: Opcode)
 /// Appends bytes in lower-case hex digits.
 fn push_hex(text: &mut LineText, bytes: &[u8])
     requires few { length bytes.now ≤ 11 }
-    requires room { array_vec_len text.old + 22 ≤ 256 }
+    requires room { array_vec_len text.old + 22 ≤ MAX_TEXT }
     ensures written { text.new.items ≡ text.old.items ++ encode_lower bytes.now }
     ensures short { array_vec_len text.new ≤ array_vec_len text.old + 22 }
 {
@@ -175,7 +176,8 @@ fn push_hex(text: &mut LineText, bytes: &[u8])
     }
 }
 
-/// The number of bytes of a memory operand, 0 for none.
+/// The number of bytes of the memory operand: 0 where there is none, and 63 where it isn't known, for which
+/// `bytes_size` is `None`.
 fn size_of(instruction: &Instruction) -> u8
     ensures { result ≡ unwrap_or instruction.now.meaning.size 0 }
 {
