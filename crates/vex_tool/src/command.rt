@@ -47,7 +47,8 @@ impl Profile {
 }
 
 impl Command {
-    /// The command that the words ask for. Whether a word was refused plays no part.
+    /// The command that the words ask for, `None` where they aren't `recode` and the name of a
+    /// profile. Whether a word was refused plays no part.
     pub fn of(words: &Words) -> Option<Command>
         ensures { result ≡ command words.now.0 }
     {

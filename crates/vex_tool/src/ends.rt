@@ -23,7 +23,8 @@ pub trait Source {
     ghost faults: { Self → ℕ };
 
     /// Puts the next bytes into the first places of `into`, and answers how many: `Ok(0)` where
-    /// nothing is left. A failed read has taken nothing, and may be tried again.
+    /// nothing is left. A failed read has taken nothing, and may be tried again. `Failed` comes only
+    /// where the count of faults rises in this call or stands at the greatest `u64`.
     fn read(&mut self, into: &mut [u8]) -> Result<usize, Failed>
         requires { 0 < length into.old }
 
@@ -50,7 +51,8 @@ pub trait Sink {
     // How many writes failed: a `u64`.
     ghost faults: { Self → ℕ };
 
-    /// Writes the whole piece. A failed write has written a front of it, which may be empty.
+    /// Writes the whole piece. A failed write has written a front of it, which may be empty. `Failed`
+    /// comes only where the count of faults rises in this call or stands at the greatest `u64`.
     fn write_all(&mut self, piece: &[u8]) -> Result<(), Failed>
         ensures appends { OnOk result (Appends (text self.old) (text self.new) piece.now) }
         ensures quiet { OnOk result (faults self.new ≡ faults self.old) }

@@ -9,7 +9,8 @@ use crate::ends::{Failed, PIECE, Sink, Source};
 use crate::line_buffer::{LineBuffer, feed, finish};
 use crate::status::Status;
 
-/// How many bytes a run takes, at most.
+/// How many bytes of input a run answers, at most. It takes one more where there is one, which tells that the limit
+/// is passed.
 pub const INPUT_LIMIT: usize = 1 << 26;
 
 // How many bytes a read asks for: a piece, or what is left to the limit where that is less, and one byte

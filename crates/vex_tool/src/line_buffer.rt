@@ -40,7 +40,7 @@ impl LineBuffer {
         }
     }
 
-    /// Appends a byte.
+    /// Appends a byte. From byte 8,193 on the line is too long, and `line` answers `None`.
     #[tactic(auto, unfolding(crate::specs::LineMachine::pushed))]
     pub fn push(&mut self, byte: u8)
         ensures { self.new ≡ pushed self.old byte }
@@ -107,7 +107,8 @@ fn take_byte<K: Sink>(
     Ok(())
 }
 
-/// Takes a piece of the input: answers each line that it ends, and keeps the rest.
+/// Takes a piece of the input: answers each line that it ends, and keeps the rest. `Failed` where the sink's
+/// write fails.
 pub fn feed<K: Sink>(
     command: &Command,
     line: &mut LineBuffer,
@@ -123,7 +124,7 @@ pub fn feed<K: Sink>(
     Ok(())
 }
 
-/// Answers the line that has no end, unless it is empty.
+/// Answers the line that has no end, unless it is empty. `Failed` where the sink's write fails.
 pub fn finish<K: Sink>(command: &Command, line: &LineBuffer, sink: &mut K) -> Result<(), Failed>
     ensures { Writes result (K.text sink.old) (K.text sink.new) (K.faults sink.old) (K.faults sink.new) (last (report command.now) line.now) }
 {

@@ -26,6 +26,7 @@ mod input;
 mod laws;
 mod line_buffer;
 mod line_text;
+// For callers of `run` over memory; here the tests alone.
 mod memory_ends;
 mod report;
 mod result_line;
@@ -88,10 +89,12 @@ pub fn run<S: Source, K: Sink>(alloc: Global, words: &Words, source: &mut S, sin
     }
 }
 
-// A word that is refused, for an argument that is too long to be kept or is not UTF-8.
+// A word that is refused, for an argument that is too long to be kept or is not UTF-8. It has 65 letters, one more
+// than a word may have.
 const REFUSED: &str = "xxxxxxxxxxxxxxxxxxxxxxxxxxxxxxxxxxxxxxxxxxxxxxxxxxxxxxxxxxxxxxxxx";
 
-// Pushes an argument. It is refused exactly where the word that it is would be, or it is not UTF-8.
+// Pushes an argument, and answers whether it is kept. It is refused exactly where it isn't UTF-8 or `Words::push`
+// refuses it.
 fn push_argument(words: &mut Words, argument: &[u8]) -> bool
     ensures accepts { IsTrue result ↔ (IsUtf8 argument.now × ((length words.old.0 < 4) × (length argument.now ≤ 64))) }
     ensures accepted { OnTrue result (words.new ≡ (words.old.0 ++ argument.now ∷ [], words.old.1)) }

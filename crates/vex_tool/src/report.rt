@@ -72,7 +72,7 @@ fn bytes_of_line(line: &[u8]) -> Result<ArrayVec<u8, MAX_CODE>, LineError>
     }
 }
 
-/// Writes the line that names the error, in one write.
+/// Writes the line that names the error, in one write. `Failed` where the sink's write fails.
 pub fn write_error<K: Sink>(error: LineError, sink: &mut K) -> Result<(), Failed>
     ensures { Writes result (K.text sink.old) (K.text sink.new) (K.faults sink.old) (K.faults sink.new) (error_line (line_error_name error)) }
 {
@@ -88,7 +88,7 @@ fn write_code_report<K: Sink>(command: &Command, bytes: &[u8], sink: &mut K) -> 
     }
 }
 
-/// Writes the report of a line.
+/// Writes the report of a line. `Failed` where the sink's write fails.
 #[tactic(auto, unfolding(crate::specs::Report::report))]
 pub fn write_report<K: Sink>(command: &Command, line: &[u8], sink: &mut K) -> Result<(), Failed>
     requires { length line.now ≤ MAX_LINE }

@@ -19,7 +19,7 @@ fn result_text(settings: &InstDecoder, bytes: &[u8]) -> LineText
     }
 }
 
-/// Writes the result line of these bytes under settings, in one write.
+/// Writes the result line of these bytes under settings, in one write. `Failed` where the sink's write fails.
 pub fn write_result_line<K: Sink>(
     settings: &InstDecoder,
     bytes: &[u8],

@@ -10,11 +10,11 @@ pub enum Status {
     Done,
     /// A read failed.
     ReadFault,
-    /// The words are no command. Nothing was read or written.
+    /// The words are no command, or one was refused. Nothing was read or written.
     Usage,
     /// A write failed.
     WriteFault,
-    /// There was no memory.
+    /// There was no memory. `run` never answers it.
     NoMemory,
     /// The input has more than 2^26 bytes.
     TooLong,

@@ -39,8 +39,8 @@ impl Words {
         }
     }
 
-    /// Appends a word. It is refused, and the words stay as they were, exactly where four words are
-    /// kept already or it has more than 64 bytes.
+    /// Appends a word, and answers whether it is kept. It is refused, and the words stay as they
+    /// were, exactly where four words are kept already or it has more than 64 bytes.
     pub fn push(&mut self, word: &str) -> bool
         ensures accepts { IsTrue result ↔ ((length self.old.0 < 4) × (length word.now ≤ 64)) }
         ensures accepted { OnTrue result (self.new ≡ (self.old.0 ++ word.now ∷ [], self.old.1)) }
