@@ -1,5 +1,6 @@
 -- The line buffer as a machine over bytes: it keeps the bytes of the unfinished line, and none of them once
--- the line is too long. What a line gives is left open, as f.
+-- the line is too long. What a line gives is left open, as f. Only the private module `line_buffer` cites this, and
+-- `stepped`, `kept_report` and `ended_at` only at its private functions.
 use Rattle.std.specs.Prelude.{ℕ, ◌==◌, nat_lt, List, [], ◌∷◌, ◌++◌, length, codes, Option, Some, None, if◌then◌else◌}
 use Rattle.vex_tool.specs.ErrorLine.{error_line}
 

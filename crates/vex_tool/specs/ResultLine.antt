@@ -21,7 +21,7 @@ use Rattle.vex_tool.specs.ErrorLine.{error_line}
 use Rattle.vex_tool.specs.declared.command.Profile.{Profile}
 use Rattle.vex_tool.specs.declared.command.Profile.TheVariants.{Default, Minimal}
 
--- a register: the letter of its bank and its number, or `rip`
+-- a register of this bank and number: the letter of the bank and the number, or `rip`
 abbrev pub register_text_in : RegisterBank → ℕ → List ℕ
 register_text_in Q n = codes "q" ++ decimal n
 register_text_in D n = codes "d" ++ decimal n
@@ -30,6 +30,7 @@ register_text_in Y n = codes "y" ++ decimal n
 register_text_in Z n = codes "z" ++ decimal n
 register_text_in RIP n = codes "rip"
 
+-- a register: the letter of its bank and its number, or `rip`
 abbrev pub register_text : Register → List ℕ
 register_text reg = register_text_in reg.bank reg.num
 

@@ -1,4 +1,5 @@
--- What a run did, by its status, whatever a line gives.
+-- What a run did, by its status, whatever a line gives. The clauses of `run` cite `input_limit` alone; the rest
+-- only `answer_input` cites, in a private module.
 use Rattle.std.specs.Prelude.{◌≡◌, ℕ, ◌+◌, ◌^◌, ◌<◌, ◌≤◌, List, length, take, flat_map, Option}
 use Rattle.std.specs.Io.KnownBytes.{Appends, Consumes, IsAtEnd}
 use Rattle.vex_tool.specs.declared.status.Status.{Status}
@@ -6,7 +7,7 @@ use Rattle.vex_tool.specs.declared.status.Status.TheVariants.{Done, ReadFault, U
 use Rattle.vex_tool.specs.Ends.{AppendsFront, RoseOrIsLast, counted}
 use Rattle.vex_tool.specs.Lines.{lines, whole}
 
--- the most bytes that one run takes
+-- the most bytes of input that a run answers; it takes one more where there is one
 abbrev pub input_limit : ℕ
 input_limit = 2 ^ 26
 
