@@ -1,4 +1,5 @@
--- The four places of an instruction give back the operands that they hold.
+-- Lemmas that the model of `Instruction` needs, and that no contract cites: the four places of an instruction give back
+-- the operands that they hold.
 use Rattle.std.proofs.Common.{◌≡◌, ℕ, zero, suc, ◌≤◌, ℤ, pos, negsuc, List, [], ◌∷◌, Option, Some, None, length, take, map, get_or, refl, ap, ◌∙◌, arith}
 use Rattle.std.proofs.lemmas.List.{length-map, length-take-le}
 use Rattle.x86_operand.specs.declared.address.Index.{Index}

@@ -1,4 +1,6 @@
--- Each test of equality is true only of values that are one (`same_x_equal`), and of each value and itself (`same_x_refl`); `same_x_decides` says both at once.
+-- Lemmas that the models of types need for their tests of equality, and that no contract cites. Each test is true only
+-- of values that are one (`same_x_equal`), and of each value and itself (`same_x_refl`); `same_x_decides` says both at
+-- once.
 use Rattle.std.proofs.Common.{◌≡◌, ℕ, Bool, true, nat_eq, List, map, Option, Some, None, refl, ap, subst}
 use Rattle.std.specs.Bool.{Decides}
 use Rattle.std.specs.Cmp.{first_so, second_so, unsigned_Decides, signed_Decides, booleans_Decides}
