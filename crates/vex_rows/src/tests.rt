@@ -7,14 +7,29 @@ use x86_operand::Opcode;
 
 #[test]
 fn keys_have_their_entries(rt: HostRuntime) -> Result<(), Fail> {
-    for (map, pp, byte, opcode) in [
-        (Map::Map0F, Pp::Plain, 0x28, Some(Opcode::VMOVAPS)),
-        (Map::Map0F, Pp::Plain, 0x29, Some(Opcode::VMOVAPS)),
-        (Map::Map0F, Pp::Plain, 0x27, None),
-        (Map::Map0F, Pp::PrefixF3, 0x28, None),
-        (Map::Map0F38, Pp::Plain, 0x29, None),
+    let moves = Some((Form::G_E_xyLmm, Opcode::VMOVAPS));
+    let stores = Some((Form::E_G_xyLmm, Opcode::VMOVAPS));
+    let adds = Some((Form::G_V_E_xyLmm, Opcode::VADDPS));
+    let multiplies = Some((Form::G_V_E_xyLmm, Opcode::VMULPS));
+    let zeroes_upper = Some((Form::Nothing, Opcode::VZEROUPPER));
+    let zeroes_all = Some((Form::Nothing, Opcode::VZEROALL));
+    // The entry with L 0, and that with L 1.
+    for (map, pp, byte, with_l0, with_l1) in [
+        (Map::Map0F, Pp::Plain, 0x28, moves, moves),
+        (Map::Map0F, Pp::Plain, 0x29, stores, stores),
+        (Map::Map0F, Pp::Plain, 0x58, adds, adds),
+        (Map::Map0F, Pp::Plain, 0x59, multiplies, multiplies),
+        (Map::Map0F, Pp::Plain, 0x77, zeroes_upper, zeroes_all),
+        (Map::Map0F, Pp::Plain, 0x27, None, None),
+        (Map::Map0F, Pp::PrefixF3, 0x28, None, None),
+        (Map::Map0F38, Pp::Plain, 0x29, None, None),
     ] {
-        for (w, l) in [(false, false), (false, true), (true, false), (true, true)] {
+        for (w, l, wanted) in [
+            (false, false, with_l0),
+            (false, true, with_l1),
+            (true, false, with_l0),
+            (true, true, with_l1),
+        ] {
             let key = Key {
                 map,
                 pp,
@@ -22,10 +37,11 @@ fn keys_have_their_entries(rt: HostRuntime) -> Result<(), Fail> {
                 w,
                 l,
             };
-            let found = lookup(&key).map(|entry| entry.opcode);
-            assert_eq!(rt; found, opcode, "{key:?}");
+            let found = lookup(&key).map(|entry| (entry.form, entry.opcode));
+            assert_eq!(rt; found, wanted, "{key:?}");
         }
     }
+    assert_eq!(rt; entry_count(), 6);
     Ok(())
 }
 

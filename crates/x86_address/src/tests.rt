@@ -336,3 +336,18 @@ fn a_byte_that_a_reader_refuses_is_an_error_in_mid_stream(rt: HostRuntime) {
     assert_eq!(rt; read_imm(&mut words), Err(exhausted));
     assert_eq!(rt; (words.offset(), words.total_offset()), (3, 4));
 }
+
+#[test]
+fn nothing_is_read_after_a_refusal(rt: HostRuntime) {
+    // SIB and a displacement of four bytes, after ModRM 84; one call fails.
+    let bytes = [0x24, 0x78, 0x56, 0x34, 0x12];
+    for refused in [0u64, 1, 2, 3, 4] {
+        let failing = [refused];
+        let mut words = FailReader::new(&bytes, &failing);
+        assert_eq!(rt;
+            read_address(&mut words, 0x84, false, false),
+            Err(DecodeError::ExhaustedInput)
+        );
+        assert_eq!(rt; words.total_offset(), refused);
+    }
+}

@@ -95,6 +95,8 @@ impl Opcode {
 impl fmt::Display for Opcode {
     ghost output = { λ opcode. Some (opcode_name opcode) };
 
+    ghost styled_output = { λ opcode _. Some (opcode_name opcode) };
+
     fn fmt<W: fmt::Write>(&self, f: &mut fmt::Formatter<W>) -> fmt::Result {
         f.write_str(self.name())
     }
