@@ -30,8 +30,8 @@ pub record FallsShort {A : Type 0} (step : List ℕ → Reading A) (old new : Re
   pub stops : Stops old new bytes
   pub wants : step bytes ≡ Err (ExhaustedInput, [])
 
--- over a `U8Reader`, a call fails exactly where the step finds too few bytes in those that were left, and then it leaves
--- none
+-- over a `U8Reader`, a call fails exactly where the step finds too few bytes in those that were left, and then it
+-- leaves none
 pub record ExactOverSlice {A B : Type 0} (step : List ℕ → Reading A) (result : Result B DecodeError) (before after : SliceReader) : Type 0 where
   pub fails : IsErr result ↔ IsErr (step before.left)
   pub empty : IsErr result → after.left ≡ []

@@ -97,8 +97,8 @@ impl Opcode {
         }
     }
 
-    /// The settings bit that the opcode alone needs where it has the EVEX mark, 10, 11 or 16; `None` where it needs none
-    /// of its own.
+    /// The settings bit that the opcode alone needs where it has the EVEX mark, 10, 11 or 16; `None` where it needs
+    /// none of its own.
     #[tactic(auto, unfolding(crate::specs::Mark::marked_bit))]
     pub fn marked_bit(self) -> Option<u8>
         ensures value { result ≡ marked_bit self }
