@@ -78,7 +78,7 @@ abbrev pub line_unless_blocked : List ℕ → Option (DecodeError × ℕ) → Li
 line_unless_blocked bytes None = line_of_reading bytes (walk bytes)
 line_unless_blocked bytes (Some error) = error_line (decode_error_name error.0)
 
--- the result line of some bytes under settings: the error that blocks them, or the length and the meaning of the spelling
--- that begins them, and the canonical bytes of that meaning
+-- the result line of some bytes under settings: the error that blocks them, or the length and the meaning of the
+-- spelling that begins them, and the canonical bytes of that meaning
 unfoldable pub result_line : List Bool → List ℕ → List ℕ
 result_line settings bytes = line_unless_blocked bytes (blocked settings bytes)
