@@ -6,7 +6,8 @@ use Rattle.vex_rows.specs.declared.key.Pp.{Pp}
 use Rattle.vex_rows.specs.declared.key.Prefix.{Prefix}
 use Rattle.vex_rows.specs.Rules.{map_number, pp_number}
 
--- the fields of a prefix, those that stand inverted in its bytes put right (Intel SDM volume 2, sections 2.3.5 and 2.3.6)
+-- the fields of a prefix, those that stand inverted in its bytes put right (Intel SDM volume 2, sections 2.3.5 and
+-- 2.3.6)
 pub record Fields : Type 0 where
   pub map : Map
   pub pp : Pp

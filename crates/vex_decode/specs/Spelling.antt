@@ -9,8 +9,8 @@ use Rattle.vex_forms.specs.Slots.{v_rule}
 use Rattle.vex_forms.specs.Gives.{gives}
 use Rattle.vex_decode.specs.Fields.{Fields, PrefixForm, prefix_bytes, IsPrefix}
 
--- the parts of a spelling: the form of its prefix, the prefix fields, the reg field, the place of E, the immediate byte.
--- A part that isn't written is 0 or no place.
+-- the parts of a spelling: the form of its prefix, the prefix fields, the reg field, the place of E, the immediate
+-- byte. A part that isn't written is 0 or no place.
 pub record Syntax : Type 0 where
   pub form : PrefixForm
   pub fields : Fields
@@ -22,7 +22,8 @@ pub record Syntax : Type 0 where
 abbrev pub imm_bytes : Bool → ℕ → List ℕ
 imm_bytes has imm = if has then imm ∷ [] else []
 
--- the bytes of a spelling: prefix, opcode byte, ModRM with SIB and displacement, immediate (Intel SDM volume 2, section 2.3.1)
+-- the bytes of a spelling: prefix, opcode byte, ModRM with SIB and displacement, immediate (Intel SDM volume 2, section
+-- 2.3.1)
 abbrev pub bytes_of : Row → Syntax → List ℕ
 bytes_of row s = prefix_bytes s.form s.fields ++ row.entry.byte ∷ (place_bytes s.reg s.place ++ imm_bytes (has_imm row) s.imm)
 

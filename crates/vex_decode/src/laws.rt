@@ -14,8 +14,8 @@ pub fn one_meaning()
     ensures { OneMeaning }
 {}
 
-/// What a decode takes out of bytes, the row, the parts of the spelling and the bytes that are left, is exactly what a row
-/// writes at their front.
+/// What a decode takes out of bytes, the row, the parts of the spelling and the bytes that are left, is exactly what a
+/// row writes at their front.
 pub fn reading_is_spelling()
     ensures { ReadingIsSpelling }
 {}

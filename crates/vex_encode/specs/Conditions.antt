@@ -63,8 +63,8 @@ OperandsFit kind index_bank (slot ∷ slots) (operand ∷ operands) =
     OperandFits kind index_bank slot operand × OperandsFit kind index_bank slots operands
 OperandsFit kind index_bank _ _ = ⊥
 
--- the row can give the meaning: the meaning isn't marked as EVEX, has the row's opcode and size, and its operands fit the
--- row's slots
+-- the row can give the meaning: the meaning isn't marked as EVEX, has the row's opcode and size, and its operands fit
+-- the row's slots
 pub record CanGive (row : Row) (m : Meaning) : Type 0 where
   pub mark : m.evex ≡ false
   pub opcode : m.opcode ≡ opcode_of row

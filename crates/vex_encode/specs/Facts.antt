@@ -7,7 +7,8 @@ use Rattle.vex_forms.specs.Layout.{row_for}
 use Rattle.vex_encode.specs.declared.walk.InstructionParts.{InstructionParts}
 use Rattle.vex_encode.specs.Walk.{row_seen}
 
--- what holds of the parts that were read of an instruction: they choose a row of registers that exists, and fit their fields
+-- what holds of the parts that were read of an instruction: they choose a row of registers that exists, and fit their
+-- fields
 pub record ChooseRow (parts : InstructionParts) : Type 0 where
   pub listed : Among parts.entry table
   pub row : row_for parts.entry parts.prefix.w parts.prefix.l false parts.form.reg ≡ row_seen parts

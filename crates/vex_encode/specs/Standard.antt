@@ -49,7 +49,8 @@ fits_two_bytes f = map_number f.map == 1 && not f.w && not f.x && not f.b
 abbrev pub shortest_form : Fields → PrefixForm
 shortest_form f = if fits_two_bytes f then C5 else C4
 
--- the fields of the prefix: map, implied prefix, W and L are the row's, and R, X, B and vvvv are what the operands demand
+-- the fields of the prefix: map, implied prefix, W and L are the row's, and R, X, B and vvvv are what the operands
+-- demand
 abbrev pub fields_for : Row → ℕ → ℕ → Target → Fields
 fields_for row g v e = record {
   map = row.entry.map;

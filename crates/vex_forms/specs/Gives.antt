@@ -15,8 +15,8 @@ target_operand bank index_bank NoTarget = nothing
 target_operand bank index_bank (Number n) = register (record { bank = bank; num = n })
 target_operand bank index_bank (At a) = memory (in_banks index_bank a)
 
--- the operand that a slot names: r and reg give G, v gives V, e gives E, and the immediate byte the rest (Intel SDM volume 2,
--- sections 2.3.5.2, 2.3.5.6, 2.3.8 and 2.3.9)
+-- the operand that a slot names: r and reg give G, v gives V, e gives E, and the immediate byte the rest (Intel SDM
+-- volume 2, sections 2.3.5.2, 2.3.5.6, 2.3.8 and 2.3.9)
 abbrev pub slot_operand : RegisterBank → ℕ → ℕ → ℕ → Target → ℕ → Slot → OperandMeaning
 slot_operand index_bank r v reg e imm (G bank) = register (record { bank = bank; num = reg + 8 * r })
 slot_operand index_bank r v reg e imm (V bank) = register (record { bank = bank; num = v })

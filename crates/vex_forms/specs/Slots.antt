@@ -329,8 +329,8 @@ demands_v kind V0 = true
 demands_v kind VifMem = is_memory kind
 demands_v kind _ = false
 
--- what a row asks of vvvv: it names an operand, or it is 0 since a step demands it, or it plays no part (Intel SDM volume 2,
--- section 2.3.5.6)
+-- what a row asks of vvvv: it names an operand, or it is 0 since a step demands it, or it plays no part (Intel SDM
+-- volume 2, section 2.3.5.6)
 unfoldable pub v_rule : Row → VvvvRule
 v_rule row =
     if list_any names_v (slots row) then Named

@@ -81,7 +81,8 @@ opcode_by form row = group_opcode (groups form row.l) row.group row.entry.opcode
 unfoldable pub opcode_of : Row → Opcode
 opcode_of row = opcode_by row.entry.form row
 
--- whether no rule and no check of its entry refuses a row's W, L, kind and group; of the choices below, those are the rows
+-- whether no rule and no check of its entry refuses a row's W, L, kind and group; of the choices below, those are the
+-- rows
 unfoldable pub exists : Row → Bool
 exists row =
     allows row.entry.w row.w && allows row.entry.l (row.l == 1)

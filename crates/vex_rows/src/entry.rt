@@ -19,9 +19,9 @@ pub enum Rule {
     One,
 }
 
-/// One line of the opcode maps: where it stands, what it asks of W and L, the form of its operands, and the opcode that it
-/// announces (Intel SDM volume 2, section 3.1.1.2). That is `Opcode::Invalid` where a group field or the kind of operand
-/// decides.
+/// One line of the opcode maps: where it stands, what it asks of W and L, the form of its operands, and the opcode that
+/// it announces (Intel SDM volume 2, section 3.1.1.2). That is `Opcode::Invalid` where a group field or the kind of
+/// operand decides.
 #[derive(Clone, Copy, PartialEq, Eq, Debug)]
 pub struct Entry {
     pub map: Map,
@@ -47,7 +47,8 @@ impl Rule {
 }
 
 impl Entry {
-    /// Whether the entry has the key: map, implied prefix and byte are the key's, and its rules allow the key's W and L.
+    /// Whether the entry has the key: map, implied prefix and byte are the key's, and its rules allow the key's W and
+    /// L.
     #[tactic(auto, unfolding(crate::specs::Rules::has_key))]
     pub fn has_key(&self, key: &Key) -> bool
         ensures { result ≡ has_key self.now key.now }

@@ -3,9 +3,9 @@
 /// The form of an entry's operands: which steps read them, and which slots name them.
 ///
 /// In a name, G, E and V are the operands from reg, rm and vvvv, and M and U are E in memory alone and in a register
-/// alone. `xmm`, `ymm`, and `xyLmm` or `Lmm` (x or y by L) are banks of vectors; `d` and `q` after an operand are 32 and
-/// 64 bits, and `v` is either by the opcode. `imm8` and `Ib` are an immediate byte, `xmm4` and `ymm4` a register in its
-/// high four bits. A number after an opcode is the opcode byte.
+/// alone. `xmm`, `ymm`, and `xyLmm` or `Lmm` (x or y by L) are banks of vectors; `d` and `q` after an operand are 32
+/// and 64 bits, and `v` is either by the opcode. `imm8` and `Ib` are an immediate byte, `xmm4` and `ymm4` a register in
+/// its high four bits. A number after an opcode is the opcode byte.
 #[derive(Clone, Copy, PartialEq, Eq, Debug)]
 pub enum Form {
     Nothing,

@@ -9,8 +9,8 @@ use Rattle.vex_encode.specs.Canon.{canon}
 use Rattle.vex_tool.specs.ErrorLine.{error_line}
 use Rattle.vex_tool.specs.ResultLine.{instruction_line, result_line}
 
--- where no error blocks the bytes and the first n of them spell a meaning, the line is that of n, of this meaning and of its
--- canonical bytes
+-- where no error blocks the bytes and the first n of them spell a meaning, the line is that of n, of this meaning and
+-- of its canonical bytes
 abbrev pub LineOfSpelling : Type 0
 LineOfSpelling =
     (settings : List Bool) (bytes : List ℕ) (n : ℕ) (m : Meaning) (canonical : List ℕ)
