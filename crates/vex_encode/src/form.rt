@@ -1,10 +1,8 @@
 //! Reading what the form of an entry asks for: the steps between the opcode byte and the end of the instruction.
 
 ghost use Rattle.std.specs.Prelude.{◌≡◌, ◌==◌, ◌/◌, ◌%◌, ◌<◌, ℕ, List, Ok, Err, MatchResult, true, false, drop};
-ghost use Rattle.std.specs.List.{list_any};
 ghost use Rattle.x86_address.specs.Bytes.{bit};
 ghost use Rattle.vex_rows.specs.Groups.{groups};
-ghost use Rattle.vex_rows.specs.Row.{is_group};
 ghost use Rattle.vex_rows.specs.Steps.{steps, steps_seen};
 ghost use Rattle.vex_decode.specs.Fields.{fields_of};
 ghost use Rattle.vex_decode.specs.Walk.{passes, refusal, check_all, kind_of_mod, walk_modrm, walk_alone, walk_form};
@@ -12,8 +10,8 @@ ghost use Rattle.vex_encode.specs.Form.{kind_seen, parts_seen, ChecksGive};
 ghost use Rattle.vex_encode.specs.Reads.{Gives};
 
 use crate::bytes::{first_byte, immediate};
-use vex_rows::{Check, Entry, Prefix, Steps, groups_of, steps_of};
-use x86_operand::{DecodeError, Opcode};
+use vex_rows::{Check, Entry, Prefix, Steps, groups_of, is_group, steps_of};
+use x86_operand::DecodeError;
 
 /// What stands in the place of the operand E.
 #[derive(Clone, Copy, PartialEq, Eq, Debug)]
@@ -35,13 +33,6 @@ pub struct FormParts {
     pub rm: Option<u8>,
     /// The immediate byte, 0 where there is none.
     pub imm: u8,
-}
-
-/// Whether a reg field is one of the groups.
-fn is_group(groups: &[(u8, Opcode)], reg: u8) -> bool
-    ensures { result ≡ is_group groups.now reg }
-{
-    groups.iter().any(|group| group.0 == reg)
 }
 
 /// Whether a check passes, by the prefix, the kind of the operand E and the field reg.

@@ -1,10 +1,10 @@
 -- What the code of a choice needs: checks of joined lists, and the group of a reg field.
-use Rattle.std.specs.Prelude.{◌≡◌, refl, ℕ, Bool, true, false, ◌&&◌, ◌||◌, ◌==◌, List, [], ◌∷◌, ◌++◌, find, Some, None, cond}
-use Rattle.std.specs.List.{list_all, list_any}
+use Rattle.std.specs.Prelude.{◌≡◌, refl, ℕ, Bool, true, false, ◌&&◌, ◌==◌, List, [], ◌∷◌, ◌++◌, find, Some, None, cond}
+use Rattle.std.specs.List.{list_all}
 use Rattle.std.proofs.Common.{ap}
 use Rattle.x86_opcode.specs.declared.Opcode.{Opcode}
 use Rattle.vex_rows.specs.declared.steps.Check.{Check}
-use Rattle.vex_rows.specs.Row.{Row, permits_choice, is_group, group_opcode}
+use Rattle.vex_rows.specs.Row.{Row, permits_choice, group_opcode}
 
 -- a test of joined lists
 list_all-append : {A : Type 0} (p : A → Bool) (xs ys : List A) → list_all p (xs ++ ys) ≡ (list_all p xs && list_all p ys)
@@ -16,14 +16,6 @@ list_all-append p (x ∷ xs) ys = by (p x) (list_all-append p xs ys) where
 
 pub permits_append : (row : Row) (xs ys : List Check) → list_all (permits_choice row) (xs ++ ys) ≡ (list_all (permits_choice row) xs && list_all (permits_choice row) ys)
 permits_append row xs ys = list_all-append (permits_choice row) xs ys
-
--- a reg field is one of the groups where some group has it
-pub any_group : (groups : List (ℕ × Opcode)) (reg : ℕ) → is_group groups reg ≡ list_any (λ group. group.0 == reg) groups
-any_group [] reg = refl
-any_group (group ∷ groups) reg = by (group.0 == reg) (any_group groups reg) where
-  by : (b : Bool) → is_group groups reg ≡ list_any (λ group. group.0 == reg) groups → (b || is_group groups reg) ≡ (b || list_any (λ group. group.0 == reg) groups)
-  by true e = refl
-  by false e = e
 
 -- the group that a search finds gives the opcode
 pub found_group : (groups : List (ℕ × Opcode)) (reg : ℕ) (announced : Opcode) (group : ℕ × Opcode) → find (λ group. group.0 == reg) groups ≡ Some group → group_opcode groups (Some reg) announced ≡ group.1

@@ -4,12 +4,12 @@ ghost use Rattle.std.specs.Prelude.{◌≡◌, find, ◌==◌, ◌&&◌, Some};
 ghost use Rattle.std.specs.List.{list_all, list_any};
 ghost use Rattle.vex_rows.specs.Steps.{steps};
 ghost use Rattle.vex_rows.specs.Groups.{groups};
-ghost use Rattle.vex_rows.specs.Row.{exists, group_opcode, has_groups, has_imm, is_group, is_group_check, opcode_of, permits_choice};
+ghost use Rattle.vex_rows.specs.Row.{exists, group_opcode, has_groups, has_imm, is_group_check, opcode_of, permits_choice};
 ghost use Rattle.vex_forms.specs.Slots.{demands_v, names_v, v_rule};
 ghost use Rattle.vex_forms.specs.Layout.{chosen, may_be, row_for};
 
 use crate::slot::{Slot, VvvvRule};
-use vex_rows::{Check, Entry, Form, groups_of, steps_of};
+use vex_rows::{Check, Entry, Form, groups_of, is_group, steps_of};
 use x86_operand::Opcode;
 
 /// An entry at one W, one L, one kind of the operand E, and one reg field where its form has groups.
@@ -40,21 +40,6 @@ fn is_group_check(check: Check) -> bool
     ensures { result ≡ is_group_check check }
 {
     matches!(check, Check::Group)
-}
-
-/// Whether a reg field is one of the groups.
-#[tactic(auto, using(crate::proofs::Choices::any_group))]
-fn is_group(groups: &[(u8, Opcode)], reg: u8) -> bool
-    ensures { result ≡ is_group groups.now reg }
-{
-    any_has(groups, reg)
-}
-
-/// Whether some group has that reg field.
-fn any_has(groups: &[(u8, Opcode)], reg: u8) -> bool
-    ensures { result ≡ list_any (λ group. group.0 == reg) groups.now }
-{
-    groups.iter().any(|group| group.0 == reg)
 }
 
 /// The group of that reg field.

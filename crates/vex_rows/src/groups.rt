@@ -2,6 +2,7 @@
 
 ghost use Rattle.std.specs.Prelude.{◌≡◌, if◌then◌else◌};
 ghost use Rattle.vex_rows.specs.Groups.{groups};
+ghost use Rattle.vex_rows.specs.Row.{is_group};
 
 use crate::form::Form;
 use x86_operand::Opcode;
@@ -39,4 +40,11 @@ pub fn groups_of(form: Form, l: bool) -> &'static [(u8, Opcode)]
         Form::MXCSR => &[(2, Opcode::VLDMXCSR), (3, Opcode::VSTMXCSR)],
         _ => &[],
     }
+}
+
+/// Whether a reg field is that of one of the groups.
+pub fn is_group(groups: &[(u8, Opcode)], reg: u8) -> bool
+    ensures { result ≡ is_group groups.now reg }
+{
+    groups.iter().any(|group| group.0 == reg)
 }

@@ -13,7 +13,7 @@ mod table;
 pub use entries::{entry_at, entry_count, lookup};
 pub use entry::{Entry, Rule};
 pub use form::Form;
-pub use groups::groups_of;
+pub use groups::{groups_of, is_group};
 pub use key::{Key, Map, Pp, Prefix};
 pub use steps::{Check, Steps, steps_of};
 
