@@ -10,7 +10,8 @@ use Rattle.vex_rows.specs.Rules.{has_key}
 use Rattle.vex_rows.specs.Steps.{steps}
 use Rattle.vex_rows.specs.Table.{table}
 use Rattle.vex_rows.specs.Row.{has_groups, opcode_of}
-use Rattle.vex_decode.specs.Walk.{entry_of, walk_form, walk}
+use Rattle.vex_forms.specs.FormWalk.{walk_form}
+use Rattle.vex_decode.specs.Walk.{entry_of, walk}
 use Rattle.vex_decode.specs.Blocked.{blocked}
 
 abbrev avx_bit : List Bool

@@ -20,9 +20,9 @@ use Rattle.vex_rows.specs.Row.{Among, kinds_of, is_register}
 use Rattle.vex_rows.specs.Tests.{is_prefix_check, is_modrm_check, is_late_check, is_register_check, is_none}
 use Rattle.vex_rows.proofs.Lists.{both-parts, parts-both}
 use Rattle.vex_rows.proofs.Forms.{orderly}
-use Rattle.vex_decode.specs.Fields.{Fields}
+use Rattle.vex_forms.specs.Fields.{Fields}
 use Rattle.vex_decode.specs.Spelling.{FitsReg, FitsImm, imm_bytes}
-use Rattle.vex_decode.specs.Walk.{passes, check_all, kind_of_mod, take_imm, Operands, place_by, walk_modrm, walk_alone, walk_form}
+use Rattle.vex_forms.specs.FormWalk.{passes, check_all, kind_of_mod, take_imm, Operands, place_by, walk_modrm, walk_alone, walk_form}
 
 -- the checks that were passed, with nothing taken
 pub record Passed (entry : Entry) (f : Fields) (kind : Kind) (reg : ℕ) (cs : List Check) (bytes rest : List ℕ) : Type 0 where
@@ -85,9 +85,9 @@ place_by-written false mode rm bytes m r direct is = Answers-ok _ (Direct rm) by
 
 -- what the steps of a form read
 pub record ReadsForm (entry : Entry) (f : Fields) (bytes : List ℕ) (read : Operands) (rest : List ℕ) : Type 0 where
-  pub first : list_all (passes entry f WithoutModRM 0) (steps entry.form).first ≡ true
-  pub second : list_all (passes entry f (kind_of read.place) read.reg) (steps entry.form).second ≡ true
-  pub third : list_all (passes entry f (kind_of read.place) read.reg) (steps entry.form).third ≡ true
+  pub first : list_all (passes entry f WithoutModRM 0) (steps entry.form).before_modrm ≡ true
+  pub second : list_all (passes entry f (kind_of read.place) read.reg) (steps entry.form).after_modrm ≡ true
+  pub third : list_all (passes entry f (kind_of read.place) read.reg) (steps entry.form).after_address ≡ true
   pub kind : Among (kind_of read.place) (kinds_of entry.form)
   pub reg : FitsReg (steps entry.form).modrm read.reg
   pub place : IsPlace read.place
@@ -97,8 +97,8 @@ pub record ReadsForm (entry : Entry) (f : Fields) (bytes : List ℕ) (read : Ope
 
 -- what the steps from ModRM on read
 record ReadsModrm (entry : Entry) (f : Fields) (form : FormSteps) (bytes : List ℕ) (read : Operands) (rest : List ℕ) : Type 0 where
-  second : list_all (passes entry f (kind_of read.place) read.reg) form.second ≡ true
-  third : list_all (passes entry f (kind_of read.place) read.reg) form.third ≡ true
+  second : list_all (passes entry f (kind_of read.place) read.reg) form.after_modrm ≡ true
+  third : list_all (passes entry f (kind_of read.place) read.reg) form.after_address ≡ true
   kind : (kind_of read.place ≡ InRegister) ⊎ (kind_of read.place ≡ InMemory)
   reg : read.reg < 8
   place : IsPlace read.place
@@ -116,19 +116,19 @@ modrm-written n rest after p kind mode rm e =
     let byte : 64 * mod_of p + 8 * ((n / 8) % 8) + rm_of p ≡ n = ap₂ (λ m r. 64 * m + 8 * ((n / 8) % 8) + r) mode rm ∙ packed n in
     ap₂ ◌∷◌ (sym byte) e ∙ ap (λ bytes. bytes ++ after) (sym (place_bytes_split ((n / 8) % 8) p kind))
 
-walk_modrm-written : (entry : Entry) (f : Fields) (form : FormSteps) (bytes : List ℕ) → (form.address || list_any is_register_check form.second) ≡ true → IsBytes bytes → Answers (ReadsModrm entry f form bytes) (walk_modrm entry f form bytes)
+walk_modrm-written : (entry : Entry) (f : Fields) (form : FormSteps) (bytes : List ℕ) → (form.address || list_any is_register_check form.after_modrm) ≡ true → IsBytes bytes → Answers (ReadsModrm entry f form bytes) (walk_modrm entry f form bytes)
 walk_modrm-written entry f form bytes direct is =
     Answers-bind (ReadsByte bytes) _ (take_byte bytes) _ (take_byte-written bytes is) (λ n rest modrm.
-    Answers-bind (λ _ r. Passed entry f (kind_of_mod (n / 64)) ((n / 8) % 8) form.second rest r) _ (check_all entry f (kind_of_mod (n / 64)) ((n / 8) % 8) form.second rest) _ (check_all-passed entry f (kind_of_mod (n / 64)) ((n / 8) % 8) form.second rest) (λ _ r2 second.
+    Answers-bind (λ _ r. Passed entry f (kind_of_mod (n / 64)) ((n / 8) % 8) form.after_modrm rest r) _ (check_all entry f (kind_of_mod (n / 64)) ((n / 8) % 8) form.after_modrm rest) _ (check_all-passed entry f (kind_of_mod (n / 64)) ((n / 8) % 8) form.after_modrm rest) (λ _ r2 second.
     let bytes2 : IsBytes r2 = subst IsBytes (sym second.same) modrm.left in
-    let registers : form.address ≡ false → n / 64 ≡ 3 = λ none. register_passed entry f (n / 64) ((n / 8) % 8) form.second (subst (λ a. (a || list_any is_register_check form.second) ≡ true) none direct) second.all in
+    let registers : form.address ≡ false → n / 64 ≡ 3 = λ none. register_passed entry f (n / 64) ((n / 8) % 8) form.after_modrm (subst (λ a. (a || list_any is_register_check form.after_modrm) ≡ true) none direct) second.all in
     Answers-bind (ReadsPlace (n / 64) (n % 8) r2) _ (place_by form.address (n / 64) (n % 8) r2) _ (place_by-written form.address (n / 64) (n % 8) r2 (high_field_below n modrm.is_byte) (low_field_below n) registers bytes2) (λ p r3 place.
-    Answers-bind (λ _ r. Passed entry f (kind_of_mod (n / 64)) ((n / 8) % 8) form.third r3 r) _ (check_all entry f (kind_of_mod (n / 64)) ((n / 8) % 8) form.third r3) _ (check_all-passed entry f (kind_of_mod (n / 64)) ((n / 8) % 8) form.third r3) (λ _ r4 third.
+    Answers-bind (λ _ r. Passed entry f (kind_of_mod (n / 64)) ((n / 8) % 8) form.after_address r3 r) _ (check_all entry f (kind_of_mod (n / 64)) ((n / 8) % 8) form.after_address r3) _ (check_all-passed entry f (kind_of_mod (n / 64)) ((n / 8) % 8) form.after_address r3) (λ _ r4 third.
     Answers-bind (ReadsImm form.imm r4) _ (take_imm form.imm r4) _ (take_imm-written form.imm r4 (subst IsBytes (sym third.same) place.left)) (λ imm r5 read.
     let kinds = two_kinds (n / 64 == 3) (kind_of p) place.kind_is in
     Answers-ok _ (record { reg = (n / 8) % 8; place = p; imm = imm }) r5 (record {
-      second = subst (λ kind. list_all (passes entry f kind ((n / 8) % 8)) form.second ≡ true) (sym place.kind_is) second.all;
-      third = subst (λ kind. list_all (passes entry f kind ((n / 8) % 8)) form.third ≡ true) (sym place.kind_is) third.all;
+      second = subst (λ kind. list_all (passes entry f kind ((n / 8) % 8)) form.after_modrm ≡ true) (sym place.kind_is) second.all;
+      third = subst (λ kind. list_all (passes entry f kind ((n / 8) % 8)) form.after_address ≡ true) (sym place.kind_is) third.all;
       kind = kinds;
       reg = low_field_below (n / 8);
       place = place.is_place;
@@ -153,9 +153,9 @@ without_modrm false p q h e = h
 
 -- what the form of an entry does after its first checks
 after_first : (entry : Entry) →
-    (if (steps entry.form).modrm then (steps entry.form).address || list_any is_register_check (steps entry.form).second
-    else is_none (steps entry.form).second && is_none (steps entry.form).third && not (steps entry.form).address) ≡ true
-after_first entry = (both-parts (list_all is_prefix_check (steps entry.form).first && list_all is_modrm_check (steps entry.form).second && list_all is_late_check (steps entry.form).third) _ (orderly entry.form)).1
+    (if (steps entry.form).modrm then (steps entry.form).address || list_any is_register_check (steps entry.form).after_modrm
+    else is_none (steps entry.form).after_modrm && is_none (steps entry.form).after_address && not (steps entry.form).address) ≡ true
+after_first entry = (both-parts (list_all is_prefix_check (steps entry.form).before_modrm && list_all is_modrm_check (steps entry.form).after_modrm && list_all is_late_check (steps entry.form).after_address) _ (orderly entry.form)).1
 
 no_checks : (cs : List Check) → is_none cs ≡ true → cs ≡ []
 no_checks [] h = refl
@@ -163,22 +163,22 @@ no_checks (c ∷ cs) h = cc
 
 -- a form without ModRM checks nothing after the first checks
 pub record Alone (form : FormSteps) : Type 0 where
-  pub second : form.second ≡ []
-  pub third : form.third ≡ []
+  pub second : form.after_modrm ≡ []
+  pub third : form.after_address ≡ []
   pub address : form.address ≡ false
 
 pub alone_form : (entry : Entry) → (steps entry.form).modrm ≡ false → Alone (steps entry.form)
 alone_form entry h =
-    let all = without_modrm (steps entry.form).modrm ((steps entry.form).address || list_any is_register_check (steps entry.form).second) (is_none (steps entry.form).second && is_none (steps entry.form).third && not (steps entry.form).address) (after_first entry) h in
-    let parts = both-parts (is_none (steps entry.form).second && is_none (steps entry.form).third) (not (steps entry.form).address) all in
-    let lists = both-parts (is_none (steps entry.form).second) (is_none (steps entry.form).third) parts.0 in
+    let all = without_modrm (steps entry.form).modrm ((steps entry.form).address || list_any is_register_check (steps entry.form).after_modrm) (is_none (steps entry.form).after_modrm && is_none (steps entry.form).after_address && not (steps entry.form).address) (after_first entry) h in
+    let parts = both-parts (is_none (steps entry.form).after_modrm && is_none (steps entry.form).after_address) (not (steps entry.form).address) all in
+    let lists = both-parts (is_none (steps entry.form).after_modrm) (is_none (steps entry.form).after_address) parts.0 in
     record { second = no_checks _ lists.0; third = no_checks _ lists.1; address = not_true (steps entry.form).address parts.1 } where
       not_true : (b : Bool) → not b ≡ true → b ≡ false
       not_true true h = cc
       not_true false h = refl
 
-pub addressed_form : (entry : Entry) → (steps entry.form).modrm ≡ true → ((steps entry.form).address || list_any is_register_check (steps entry.form).second) ≡ true
-addressed_form entry h = with_modrm (steps entry.form).modrm ((steps entry.form).address || list_any is_register_check (steps entry.form).second) (is_none (steps entry.form).second && is_none (steps entry.form).third && not (steps entry.form).address) (after_first entry) h
+pub addressed_form : (entry : Entry) → (steps entry.form).modrm ≡ true → ((steps entry.form).address || list_any is_register_check (steps entry.form).after_modrm) ≡ true
+addressed_form entry h = with_modrm (steps entry.form).modrm ((steps entry.form).address || list_any is_register_check (steps entry.form).after_modrm) (is_none (steps entry.form).after_modrm && is_none (steps entry.form).after_address && not (steps entry.form).address) (after_first entry) h
 
 among_kinds : (modrm : Bool) (kind : Kind) → modrm ≡ true → (kind ≡ InRegister) ⊎ (kind ≡ InMemory) → Among kind (if modrm then InRegister ∷ InMemory ∷ [] else WithoutModRM ∷ [])
 among_kinds true kind h (inl e) = inl e
@@ -201,7 +201,7 @@ fits_no_reg false reg h k = k
 pub walk_form-written : (entry : Entry) (f : Fields) (bytes : List ℕ) → IsBytes bytes → Answers (ReadsForm entry f bytes) (walk_form entry f bytes)
 unfolding walk_form
 walk_form-written entry f bytes is =
-    Answers-bind (λ _ r. Passed entry f WithoutModRM 0 (steps entry.form).first bytes r) _ (check_all entry f WithoutModRM 0 (steps entry.form).first bytes) _ (check_all-passed entry f WithoutModRM 0 (steps entry.form).first bytes) (λ _ rest first.
+    Answers-bind (λ _ r. Passed entry f WithoutModRM 0 (steps entry.form).before_modrm bytes r) _ (check_all entry f WithoutModRM 0 (steps entry.form).before_modrm bytes) _ (check_all-passed entry f WithoutModRM 0 (steps entry.form).before_modrm bytes) (λ _ rest first.
     let left : IsBytes rest = subst IsBytes (sym first.same) is in
     Answers-if (ReadsForm entry f bytes) (steps entry.form).modrm (walk_modrm entry f (steps entry.form) rest) (walk_alone (steps entry.form) rest)
     (λ h value after e.
@@ -273,18 +273,18 @@ place_by-again false (Baseless k i n) rest is kind direct = cc (direct refl)
 
 -- what the steps of a form ask of what is written
 pub record WritesForm (entry : Entry) (f : Fields) (read : Operands) : Type 0 where
-  pub first : list_all (passes entry f WithoutModRM 0) (steps entry.form).first ≡ true
-  pub second : list_all (passes entry f (kind_of read.place) read.reg) (steps entry.form).second ≡ true
-  pub third : list_all (passes entry f (kind_of read.place) read.reg) (steps entry.form).third ≡ true
+  pub first : list_all (passes entry f WithoutModRM 0) (steps entry.form).before_modrm ≡ true
+  pub second : list_all (passes entry f (kind_of read.place) read.reg) (steps entry.form).after_modrm ≡ true
+  pub third : list_all (passes entry f (kind_of read.place) read.reg) (steps entry.form).after_address ≡ true
   pub kind : Among (kind_of read.place) (kinds_of entry.form)
   pub reg : FitsReg (steps entry.form).modrm read.reg
   pub place : IsPlace read.place
   pub imm : FitsImm (steps entry.form).imm read.imm
 
 walk_modrm-again : (entry : Entry) (f : Fields) (form : FormSteps) (read : Operands) (rest : List ℕ) →
-    list_all (passes entry f (kind_of read.place) read.reg) form.second ≡ true →
-    list_all (passes entry f (kind_of read.place) read.reg) form.third ≡ true →
-    (form.address || list_any is_register_check form.second) ≡ true →
+    list_all (passes entry f (kind_of read.place) read.reg) form.after_modrm ≡ true →
+    list_all (passes entry f (kind_of read.place) read.reg) form.after_address ≡ true →
+    (form.address || list_any is_register_check form.after_modrm) ≡ true →
     (kind_of read.place ≡ InRegister) ⊎ (kind_of read.place ≡ InMemory) → read.reg < 8 → IsPlace read.place → FitsImm form.imm read.imm →
     walk_modrm entry f form (place_bytes read.reg read.place ++ (imm_bytes form.imm read.imm ++ rest)) ≡ Ok (read, rest)
 walk_modrm-again entry f form read rest second third direct kind reg place imm =
@@ -296,14 +296,14 @@ walk_modrm-again entry f form read rest second third direct kind reg place imm =
     let reg_is : (n / 8) % 8 ≡ read.reg = middle_field (mod_of p) read.reg (rm_of p) reg low in
     let rm_is : n % 8 ≡ rm_of p = low_field (mod_of p) read.reg (rm_of p) low in
     let kind_is : kind_of_mod (n / 64) ≡ kind_of p = ap kind_of_mod high_is ∙ kind_by_mod p kind in
-    let second' : list_all (passes entry f (kind_of_mod (n / 64)) ((n / 8) % 8)) form.second ≡ true = subst₂ (λ k r. list_all (passes entry f k r) form.second ≡ true) (sym kind_is) (sym reg_is) second in
-    let third' : list_all (passes entry f (kind_of_mod (n / 64)) ((n / 8) % 8)) form.third ≡ true = subst₂ (λ k r. list_all (passes entry f k r) form.third ≡ true) (sym kind_is) (sym reg_is) third in
-    let registers : form.address ≡ false → is_register (kind_of p) ≡ true = λ none. only_register entry f (kind_of p) read.reg form.second (subst (λ a. (a || list_any is_register_check form.second) ≡ true) none direct) second in
+    let second' : list_all (passes entry f (kind_of_mod (n / 64)) ((n / 8) % 8)) form.after_modrm ≡ true = subst₂ (λ k r. list_all (passes entry f k r) form.after_modrm ≡ true) (sym kind_is) (sym reg_is) second in
+    let third' : list_all (passes entry f (kind_of_mod (n / 64)) ((n / 8) % 8)) form.after_address ≡ true = subst₂ (λ k r. list_all (passes entry f k r) form.after_address ≡ true) (sym kind_is) (sym reg_is) third in
+    let registers : form.address ≡ false → is_register (kind_of p) ≡ true = λ none. only_register entry f (kind_of p) read.reg form.after_modrm (subst (λ a. (a || list_any is_register_check form.after_modrm) ≡ true) none direct) second in
     let placed : place_by form.address (n / 64) (n % 8) (tail_of p ++ more) ≡ Ok (p, more) = subst₂ (λ m r. place_by form.address m r (tail_of p ++ more) ≡ Ok (p, more)) (sym high_is) (sym rm_is) (place_by-again form.address p more place kind registers) in
     ap (λ bytes. walk_modrm entry f form (bytes ++ more)) (place_bytes_split read.reg p kind)
-    ∙ step_then (check_all entry f (kind_of_mod (n / 64)) ((n / 8) % 8) form.second (tail_of p ++ more)) _ (tt, tail_of p ++ more) _ (check_all-again entry f (kind_of_mod (n / 64)) ((n / 8) % 8) form.second (tail_of p ++ more) second')
+    ∙ step_then (check_all entry f (kind_of_mod (n / 64)) ((n / 8) % 8) form.after_modrm (tail_of p ++ more)) _ (tt, tail_of p ++ more) _ (check_all-again entry f (kind_of_mod (n / 64)) ((n / 8) % 8) form.after_modrm (tail_of p ++ more) second')
     (step_then (place_by form.address (n / 64) (n % 8) (tail_of p ++ more)) _ (p, more) _ placed
-    (step_then (check_all entry f (kind_of_mod (n / 64)) ((n / 8) % 8) form.third more) _ (tt, more) _ (check_all-again entry f (kind_of_mod (n / 64)) ((n / 8) % 8) form.third more third')
+    (step_then (check_all entry f (kind_of_mod (n / 64)) ((n / 8) % 8) form.after_address more) _ (tt, more) _ (check_all-again entry f (kind_of_mod (n / 64)) ((n / 8) % 8) form.after_address more third')
     (step_then (take_imm form.imm more) _ (read.imm, rest) _ (take_imm-again form.imm read.imm rest imm)
     (λ i. Ok (record { reg = reg_is i; place = p; imm = read.imm }, rest)))))
 
@@ -354,10 +354,10 @@ unfolding walk_form
 walk_form-again entry f read rest is = by (steps entry.form).modrm refl where
   by : (b : Bool) → (steps entry.form).modrm ≡ b → walk_form entry f (place_bytes read.reg read.place ++ (imm_bytes (steps entry.form).imm read.imm ++ rest)) ≡ Ok (read, rest)
   by true h =
-      step_then (check_all entry f WithoutModRM 0 (steps entry.form).first _) _ (tt, _) _ (check_all-again entry f WithoutModRM 0 (steps entry.form).first (place_bytes read.reg read.place ++ (imm_bytes (steps entry.form).imm read.imm ++ rest)) is.first)
+      step_then (check_all entry f WithoutModRM 0 (steps entry.form).before_modrm _) _ (tt, _) _ (check_all-again entry f WithoutModRM 0 (steps entry.form).before_modrm (place_bytes read.reg read.place ++ (imm_bytes (steps entry.form).imm read.imm ++ rest)) is.first)
       (chosen_true (steps entry.form).modrm _ _ h
       ∙ walk_modrm-again entry f (steps entry.form) read rest is.second is.third (addressed_form entry h) (kinds_with_modrm _ _ h is.kind) (reg_with_modrm _ _ h is.reg) is.place is.imm)
   by false h =
-      step_then (check_all entry f WithoutModRM 0 (steps entry.form).first _) _ (tt, _) _ (check_all-again entry f WithoutModRM 0 (steps entry.form).first (place_bytes read.reg read.place ++ (imm_bytes (steps entry.form).imm read.imm ++ rest)) is.first)
+      step_then (check_all entry f WithoutModRM 0 (steps entry.form).before_modrm _) _ (tt, _) _ (check_all-again entry f WithoutModRM 0 (steps entry.form).before_modrm (place_bytes read.reg read.place ++ (imm_bytes (steps entry.form).imm read.imm ++ rest)) is.first)
       (chosen_false (steps entry.form).modrm _ _ h
       ∙ walk_alone-again (steps entry.form) read rest (reg_alone _ _ h is.reg) (no_place read.place (kinds_alone _ _ h is.kind)) is.imm)

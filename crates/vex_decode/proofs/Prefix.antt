@@ -10,7 +10,8 @@ use Rattle.vex_rows.specs.declared.key.Map.TheVariants.{Map0F, Map0F38, Map0F3A}
 use Rattle.vex_rows.specs.declared.key.Pp.{Pp}
 use Rattle.vex_rows.specs.declared.key.Pp.TheVariants.{Plain, Prefix66, PrefixF3, PrefixF2}
 use Rattle.vex_rows.specs.Rules.{map_number, pp_number}
-use Rattle.vex_decode.specs.Fields.{Fields, PrefixForm, C4, C5, low_byte, prefix_bytes, IsPrefix, FitsTwoBytes}
+use Rattle.vex_forms.specs.Fields.{Fields}
+use Rattle.vex_decode.specs.Fields.{PrefixForm, C4, C5, low_byte, prefix_bytes, IsPrefix, FitsTwoBytes}
 use Rattle.vex_decode.specs.Walk.{pp_of, map_of, fields_of_two, fields_of_three, fields_by_map, inverted, read_fields, read_prefix, form_of}
 
 -- the number pp and back

@@ -12,8 +12,10 @@ use Rattle.vex_rows.specs.declared.key.Map.{Map}
 use Rattle.vex_rows.specs.declared.steps.Check.{Check}
 use Rattle.vex_rows.specs.declared.steps.Check.TheVariants.{V0, L0, Reg, Mem, Group, VifMem}
 use Rattle.vex_rows.specs.Steps.{FormSteps, steps}
-use Rattle.vex_decode.specs.Fields.{Fields, PrefixForm, C4, C5}
-use Rattle.vex_decode.specs.Walk.{map_of, fields_of_two, fields_of_three, fields_by_map, read_fields, form_of, read_prefix, key_of, entry_of, found, passes, refusal, check_all, kind_of_mod, take_imm, place_by, walk_modrm, walk_alone, walk_form, walk}
+use Rattle.vex_forms.specs.Fields.{Fields}
+use Rattle.vex_decode.specs.Fields.{PrefixForm, C4, C5}
+use Rattle.vex_forms.specs.FormWalk.{passes, refusal, check_all, kind_of_mod, take_imm, place_by, walk_modrm, walk_alone, walk_form}
+use Rattle.vex_decode.specs.Walk.{map_of, fields_of_two, fields_of_three, fields_by_map, read_fields, form_of, read_prefix, key_of, entry_of, found, walk}
 
 -- where the input is exhausted, nothing is left
 abbrev pub ExhaustsAll : DecodeError × List ℕ → Type 0
@@ -70,9 +72,9 @@ IsReader-walk_modrm : (entry : Entry) (f : Fields) (form : FormSteps) → IsRead
 IsReader-walk_modrm entry f form =
     let checks = λ (modrm : ℕ) (cs : List Check). IsReader-check_all entry f (kind_of_mod (modrm / 64)) ((modrm / 8) % 8) cs in
     IsReader-bind _ take_byte _ byte (λ modrm.
-    IsReader-bind _ (check_all entry f (kind_of_mod (modrm / 64)) ((modrm / 8) % 8) form.second) _ (checks modrm form.second) (λ second.
+    IsReader-bind _ (check_all entry f (kind_of_mod (modrm / 64)) ((modrm / 8) % 8) form.after_modrm) _ (checks modrm form.after_modrm) (λ second.
     IsReader-bind _ (place_by form.address (modrm / 64) (modrm % 8)) _ (IsReader-place_by form.address (modrm / 64) (modrm % 8)) (λ place.
-    IsReader-bind _ (check_all entry f (kind_of_mod (modrm / 64)) ((modrm / 8) % 8) form.third) _ (checks modrm form.third) (λ third.
+    IsReader-bind _ (check_all entry f (kind_of_mod (modrm / 64)) ((modrm / 8) % 8) form.after_address) _ (checks modrm form.after_address) (λ third.
     IsReader-bind _ (take_imm form.imm) _ (IsReader-take_imm form.imm) (λ imm. IsReader-ok _ _)))))
 
 IsReader-walk_alone : (form : FormSteps) → IsReader ExhaustsAll (walk_alone form)
@@ -82,7 +84,7 @@ IsReader-walk_alone form = IsReader-bind _ (take_imm form.imm) _ (IsReader-take_
 pub IsReader-walk_form : (entry : Entry) (f : Fields) → IsReader ExhaustsAll (walk_form entry f)
 unfolding walk_form
 IsReader-walk_form entry f =
-    IsReader-bind _ (check_all entry f WithoutModRM 0 (steps entry.form).first) _ (IsReader-check_all entry f WithoutModRM 0 (steps entry.form).first) (λ first.
+    IsReader-bind _ (check_all entry f WithoutModRM 0 (steps entry.form).before_modrm) _ (IsReader-check_all entry f WithoutModRM 0 (steps entry.form).before_modrm) (λ first.
     IsReader-if _ (steps entry.form).modrm _ _ (IsReader-walk_modrm entry f (steps entry.form)) (IsReader-walk_alone (steps entry.form)))
 
 -- all steps but for the settings

@@ -11,7 +11,8 @@ use Rattle.x86_address.specs.Reading.{Reading}
 use Rattle.vex_rows.specs.Row.{Row, opcode_of}
 use Rattle.vex_decode.specs.Spelling.{Syntax, bytes_of, meant, Spells}
 use Rattle.vex_decode.specs.Walk.{walk}
-use Rattle.vex_decode.specs.Blocked.{taken, refused, blocked}
+use Rattle.vex_forms.specs.FormWalk.{taken}
+use Rattle.vex_decode.specs.Blocked.{refused, blocked}
 use Rattle.vex_decode.specs.Laws.{PrefixFree, OneMeaning, ReadingIsSpelling, BeginsPermitted, BlockedOrBegun, MoreBytes, ExhaustedAtEnd, MoreSettings, SameAnswer}
 use Rattle.vex_decode.proofs.Binds.{ok_same}
 use Rattle.vex_decode.proofs.Spells.{walk-spelling, begun-not_blocked, not_blocked-spells, opcode_meant, spells-parts, refused-permitted}

@@ -12,7 +12,8 @@ use Rattle.vex_rows.specs.Row.{Row, IsRow, opcode_of}
 use Rattle.vex_forms.specs.Gives.{gives}
 use Rattle.vex_decode.specs.Spelling.{Syntax, IsSyntax, bytes_of, meant, Spells}
 use Rattle.vex_decode.specs.Walk.{walk}
-use Rattle.vex_decode.specs.Blocked.{taken, refused, blocked}
+use Rattle.vex_forms.specs.FormWalk.{taken}
+use Rattle.vex_decode.specs.Blocked.{refused, blocked}
 use Rattle.vex_decode.proofs.Walk.{walk-again, walk-written}
 
 -- the parts of a spelling by a row spell what they mean

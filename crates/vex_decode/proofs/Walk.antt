@@ -30,23 +30,25 @@ use Rattle.vex_forms.specs.declared.slot.VvvvRule.{VvvvRule}
 use Rattle.vex_forms.specs.declared.slot.VvvvRule.TheVariants.{Named, Zero, Free}
 use Rattle.vex_forms.specs.Slots.{v_rule, demands_v}
 use Rattle.vex_forms.proofs.Sound.{demanded, v_rule-demanded, v_rule-zero}
-use Rattle.vex_decode.specs.Fields.{Fields, PrefixForm, prefix_bytes, IsPrefix}
+use Rattle.vex_forms.specs.Fields.{Fields}
+use Rattle.vex_decode.specs.Fields.{PrefixForm, prefix_bytes, IsPrefix}
 use Rattle.vex_decode.specs.Spelling.{Syntax, imm_bytes, bytes_of, FitsRule, FitsGroup, IsSyntax}
-use Rattle.vex_decode.specs.Walk.{passes, Operands, read_prefix, key_of, entry_of, found, walk_form, row_of, syntax_of, walk}
+use Rattle.vex_forms.specs.FormWalk.{passes, Operands, walk_form, row_of}
+use Rattle.vex_decode.specs.Walk.{read_prefix, key_of, entry_of, found, syntax_of, walk}
 use Rattle.vex_decode.proofs.Prefix.{ReadsPrefix, read_prefix-again, read_prefix-written}
 use Rattle.vex_decode.proofs.Form.{ReadsForm, WritesForm, step_then, walk_form-again, walk_form-written}
 
 -- the checks of an orderly form
 pub record Orderly (entry : Entry) : Type 0 where
-  pub first : list_all is_prefix_check (steps entry.form).first ≡ true
-  pub second : list_all is_modrm_check (steps entry.form).second ≡ true
-  pub third : list_all is_late_check (steps entry.form).third ≡ true
+  pub first : list_all is_prefix_check (steps entry.form).before_modrm ≡ true
+  pub second : list_all is_modrm_check (steps entry.form).after_modrm ≡ true
+  pub third : list_all is_late_check (steps entry.form).after_address ≡ true
 
 pub orderly_checks : (entry : Entry) → Orderly entry
 orderly_checks entry =
-    let all = both-parts (list_all is_prefix_check (steps entry.form).first && list_all is_modrm_check (steps entry.form).second && list_all is_late_check (steps entry.form).third) _ (orderly entry.form) in
-    let two = both-parts (list_all is_prefix_check (steps entry.form).first && list_all is_modrm_check (steps entry.form).second) (list_all is_late_check (steps entry.form).third) all.0 in
-    let one = both-parts (list_all is_prefix_check (steps entry.form).first) (list_all is_modrm_check (steps entry.form).second) two.0 in
+    let all = both-parts (list_all is_prefix_check (steps entry.form).before_modrm && list_all is_modrm_check (steps entry.form).after_modrm && list_all is_late_check (steps entry.form).after_address) _ (orderly entry.form) in
+    let two = both-parts (list_all is_prefix_check (steps entry.form).before_modrm && list_all is_modrm_check (steps entry.form).after_modrm) (list_all is_late_check (steps entry.form).after_address) all.0 in
+    let one = both-parts (list_all is_prefix_check (steps entry.form).before_modrm) (list_all is_modrm_check (steps entry.form).after_modrm) two.0 in
     record { first = one.0; second = one.1; third = two.1 }
 
 -- an element that passes a test makes some element pass it
@@ -73,23 +75,23 @@ zero_of_rule Free v fits e = cc
 
 module _ (row : Row) (s : Syntax) (chosen : Chosen row) (is : IsSyntax row s) where
   -- vvvv is 0 where a step demands it
-  v_first : (c : Check) → Among c (steps row.entry.form).first → demands_v row.kind c ≡ true → (s.fields.v == 0) ≡ true
-  v_first c m h = eq-eqb _ _ (zero_of_rule (v_rule row) s.fields.v is.v (v_rule-demanded row (or_left _ _ (any-among (demands_v row.kind) c (steps row.entry.form).first m h))))
+  v_first : (c : Check) → Among c (steps row.entry.form).before_modrm → demands_v row.kind c ≡ true → (s.fields.v == 0) ≡ true
+  v_first c m h = eq-eqb _ _ (zero_of_rule (v_rule row) s.fields.v is.v (v_rule-demanded row (or_left _ _ (any-among (demands_v row.kind) c (steps row.entry.form).before_modrm m h))))
 
-  v_third : (c : Check) → Among c (steps row.entry.form).third → demands_v row.kind c ≡ true → (s.fields.v == 0) ≡ true
-  v_third c m h = eq-eqb _ _ (zero_of_rule (v_rule row) s.fields.v is.v (v_rule-demanded row (or_right _ _ (any-among (demands_v row.kind) c (steps row.entry.form).third m h))))
+  v_third : (c : Check) → Among c (steps row.entry.form).after_address → demands_v row.kind c ≡ true → (s.fields.v == 0) ≡ true
+  v_third c m h = eq-eqb _ _ (zero_of_rule (v_rule row) s.fields.v is.v (v_rule-demanded row (or_right _ _ (any-among (demands_v row.kind) c (steps row.entry.form).after_address m h))))
 
   -- each check of the row's choice holds
-  chosen_first : (c : Check) → Among c (steps row.entry.form).first → permits_choice row c ≡ true
+  chosen_first : (c : Check) → Among c (steps row.entry.form).before_modrm → permits_choice row c ≡ true
   chosen_first c m = from-list_all (permits_choice row) c (checks_of row.entry) chosen.checks (among-append_left c _ _ (among-append_left c _ _ m))
 
-  chosen_second : (c : Check) → Among c (steps row.entry.form).second → permits_choice row c ≡ true
-  chosen_second c m = from-list_all (permits_choice row) c (checks_of row.entry) chosen.checks (among-append_left c _ _ (among-append_right c (steps row.entry.form).first _ m))
+  chosen_second : (c : Check) → Among c (steps row.entry.form).after_modrm → permits_choice row c ≡ true
+  chosen_second c m = from-list_all (permits_choice row) c (checks_of row.entry) chosen.checks (among-append_left c _ _ (among-append_right c (steps row.entry.form).before_modrm _ m))
 
-  chosen_third : (c : Check) → Among c (steps row.entry.form).third → permits_choice row c ≡ true
-  chosen_third c m = from-list_all (permits_choice row) c (checks_of row.entry) chosen.checks (among-append_right c ((steps row.entry.form).first ++ (steps row.entry.form).second) _ m)
+  chosen_third : (c : Check) → Among c (steps row.entry.form).after_address → permits_choice row c ≡ true
+  chosen_third c m = from-list_all (permits_choice row) c (checks_of row.entry) chosen.checks (among-append_right c ((steps row.entry.form).before_modrm ++ (steps row.entry.form).after_modrm) _ m)
 
-  passes_first : (c : Check) → Among c (steps row.entry.form).first → passes row.entry s.fields WithoutModRM 0 c ≡ true
+  passes_first : (c : Check) → Among c (steps row.entry.form).before_modrm → passes row.entry s.fields WithoutModRM 0 c ≡ true
   passes_first V0 m = v_first V0 m refl
   passes_first L0 m = subst (λ l. (l == 0) ≡ true) (sym is.l) (chosen_first L0 m)
   passes_first Reg m = cc (from-list_all is_prefix_check Reg _ (orderly_checks row.entry).first m)
@@ -105,16 +107,16 @@ group_by form l reg None has m allowed fits =
     cc (from.2)
 group_by form l reg (Some g) has m allowed fits = subst (λ n. is_group (groups form l) n ≡ true) (sym fits) allowed
 
-has_groups-checked : (row : Row) → Among Group (steps row.entry.form).second → has_groups row.entry.form ≡ true
+has_groups-checked : (row : Row) → Among Group (steps row.entry.form).after_modrm → has_groups row.entry.form ≡ true
 unfolding has_groups
-has_groups-checked row m = any-among is_group_check Group (steps row.entry.form).second m refl
+has_groups-checked row m = any-among is_group_check Group (steps row.entry.form).after_modrm m refl
 
 if_memory : (b : Bool) (t : Bool) → (b ≡ true → t ≡ true) → (if b then t else true) ≡ true
 if_memory true t h = h refl
 if_memory false t h = refl
 
 module _ (row : Row) (s : Syntax) (chosen : Chosen row) (is : IsSyntax row s) where
-  passes_second : (c : Check) → Among c (steps row.entry.form).second → passes row.entry s.fields (kind_of s.place) s.reg c ≡ true
+  passes_second : (c : Check) → Among c (steps row.entry.form).after_modrm → passes row.entry s.fields (kind_of s.place) s.reg c ≡ true
   passes_second V0 m = cc (from-list_all is_modrm_check V0 _ (orderly_checks row.entry).second m)
   passes_second L0 m = cc (from-list_all is_modrm_check L0 _ (orderly_checks row.entry).second m)
   passes_second Reg m = subst (λ k. is_register k ≡ true) (sym is.kind) (chosen_second row s chosen is Reg m)
@@ -125,7 +127,7 @@ module _ (row : Row) (s : Syntax) (chosen : Chosen row) (is : IsSyntax row s) wh
       (group_by row.entry.form row.l s.reg row.group has chosen.group (chosen_second row s chosen is Group m) is.group)
   passes_second VifMem m = cc (from-list_all is_modrm_check VifMem _ (orderly_checks row.entry).second m)
 
-  passes_third : (c : Check) → Among c (steps row.entry.form).third → passes row.entry s.fields (kind_of s.place) s.reg c ≡ true
+  passes_third : (c : Check) → Among c (steps row.entry.form).after_address → passes row.entry s.fields (kind_of s.place) s.reg c ≡ true
   passes_third V0 m = cc (from-list_all is_late_check V0 _ (orderly_checks row.entry).third m)
   passes_third L0 m = cc (from-list_all is_late_check L0 _ (orderly_checks row.entry).third m)
   passes_third Reg m = subst (λ k. is_register k ≡ true) (sym is.kind) (chosen_third row s chosen is Reg m)
@@ -288,9 +290,9 @@ module _ (entry : Entry) (form : PrefixForm) (f : Fields) (byte : ℕ) (bytes : 
     (is_prefix : IsPrefix form f) (finds : Finds entry f byte) (reads : ReadsForm entry f bytes read rest) where
   group_checked : has_groups entry.form ≡ true → is_group (groups entry.form f.l) read.reg ≡ true
   unfolding has_groups
-  group_checked h = group_passed entry f (kind_of read.place) read.reg (steps entry.form).second h reads.second
+  group_checked h = group_passed entry f (kind_of read.place) read.reg (steps entry.form).after_modrm h reads.second
 
-  choice_first : (c : Check) → Among c (steps entry.form).first → permits_choice (row_of entry f read) c ≡ true
+  choice_first : (c : Check) → Among c (steps entry.form).before_modrm → permits_choice (row_of entry f read) c ≡ true
   choice_first V0 m = refl
   choice_first L0 m = from-list_all (passes entry f WithoutModRM 0) L0 _ reads.first m
   choice_first Reg m = cc (from-list_all is_prefix_check Reg _ (orderly_checks entry).first m)
@@ -298,7 +300,7 @@ module _ (entry : Entry) (form : PrefixForm) (f : Fields) (byte : ℕ) (bytes : 
   choice_first Group m = cc (from-list_all is_prefix_check Group _ (orderly_checks entry).first m)
   choice_first VifMem m = refl
 
-  choice_second : (c : Check) → Among c (steps entry.form).second → permits_choice (row_of entry f read) c ≡ true
+  choice_second : (c : Check) → Among c (steps entry.form).after_modrm → permits_choice (row_of entry f read) c ≡ true
   choice_second V0 m = refl
   choice_second L0 m = cc (from-list_all is_modrm_check L0 _ (orderly_checks entry).second m)
   choice_second Reg m = from-list_all (passes entry f (kind_of read.place) read.reg) Reg _ reads.second m
@@ -306,7 +308,7 @@ module _ (entry : Entry) (form : PrefixForm) (f : Fields) (byte : ℕ) (bytes : 
   choice_second Group m = allowed_read (has_groups entry.form) entry.form f.l read.reg (from-list_all (passes entry f (kind_of read.place) read.reg) Group _ reads.second m)
   choice_second VifMem m = refl
 
-  choice_third : (c : Check) → Among c (steps entry.form).third → permits_choice (row_of entry f read) c ≡ true
+  choice_third : (c : Check) → Among c (steps entry.form).after_address → permits_choice (row_of entry f read) c ≡ true
   choice_third V0 m = refl
   choice_third L0 m = cc (from-list_all is_late_check L0 _ (orderly_checks entry).third m)
   choice_third Reg m = from-list_all (passes entry f (kind_of read.place) read.reg) Reg _ reads.third m
@@ -315,8 +317,8 @@ module _ (entry : Entry) (form : PrefixForm) (f : Fields) (byte : ℕ) (bytes : 
   choice_third VifMem m = refl
 
   choice : (c : Check) → Among c (checks_of entry) → permits_choice (row_of entry f read) c ≡ true
-  choice c m = elim (among-append c ((steps entry.form).first ++ (steps entry.form).second) (steps entry.form).third m) [
-    | inl k ↦ elim (among-append c (steps entry.form).first (steps entry.form).second k) [ inl n ↦ choice_first c n | inr n ↦ choice_second c n ]
+  choice c m = elim (among-append c ((steps entry.form).before_modrm ++ (steps entry.form).after_modrm) (steps entry.form).after_address m) [
+    | inl k ↦ elim (among-append c (steps entry.form).before_modrm (steps entry.form).after_modrm k) [ inl n ↦ choice_first c n | inr n ↦ choice_second c n ]
     | inr k ↦ choice_third c k
   ]
 
@@ -332,9 +334,9 @@ module _ (entry : Entry) (form : PrefixForm) (f : Fields) (byte : ℕ) (bytes : 
   }
 
   v_demanded : demanded (row_of entry f read) ≡ true → f.v ≡ 0
-  v_demanded h = elim (either_true (list_any (demands_v (kind_of read.place)) (steps entry.form).first) (list_any (demands_v (kind_of read.place)) (steps entry.form).third) h) [
-    | inl k ↦ v_passed_first entry f (kind_of read.place) (steps entry.form).first (orderly_checks entry).first k reads.first
-    | inr k ↦ v_passed_third entry f (kind_of read.place) read.reg (steps entry.form).third (orderly_checks entry).third k reads.third
+  v_demanded h = elim (either_true (list_any (demands_v (kind_of read.place)) (steps entry.form).before_modrm) (list_any (demands_v (kind_of read.place)) (steps entry.form).after_address) h) [
+    | inl k ↦ v_passed_first entry f (kind_of read.place) (steps entry.form).before_modrm (orderly_checks entry).first k reads.first
+    | inr k ↦ v_passed_third entry f (kind_of read.place) read.reg (steps entry.form).after_address (orderly_checks entry).third k reads.third
   ]
 
   syntax_read : IsSyntax (row_of entry f read) (syntax_of form f read)

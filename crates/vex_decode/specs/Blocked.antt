@@ -1,30 +1,16 @@
-use Rattle.std.specs.Prelude.{ℕ, ◌-◌, Bool, false, List, length, Option, Some, None, Ok, Err, if◌then◌else◌}
+use Rattle.std.specs.Prelude.{ℕ, Bool, false, List, Option, Some, None, Ok, Err, if◌then◌else◌}
 use Rattle.x86_operand.specs.declared.error.DecodeError.{DecodeError}
 use Rattle.x86_operand.specs.declared.error.DecodeError.TheVariants.{InvalidOpcode}
 use Rattle.x86_permit.specs.Permission.{permits}
 use Rattle.x86_address.specs.Reading.{Reading}
-use Rattle.vex_rows.specs.declared.entry.Entry.{Entry}
 use Rattle.vex_rows.specs.Row.{Row, opcode_of}
-use Rattle.vex_decode.specs.Fields.{Fields}
+use Rattle.vex_forms.specs.FormWalk.{taken, failure}
 use Rattle.vex_decode.specs.Spelling.{Syntax}
-use Rattle.vex_decode.specs.Walk.{walk, walk_form}
-
--- how many bytes of a string were taken where this rest is left
-abbrev pub taken : List ℕ → List ℕ → ℕ
-taken bytes rest = length bytes - length rest
-
--- the error that a reading ends with, and the number of bytes taken
-abbrev pub failure : {A : Type 0} → List ℕ → Reading A → Option (DecodeError × ℕ)
-failure bytes (Ok read) = None
-failure bytes (Err error) = Some (error.0, taken bytes error.1)
+use Rattle.vex_decode.specs.Walk.{walk}
 
 -- the first failing step of a decode without settings, and the number of bytes taken; none where no step fails
 abbrev pub fails : List ℕ → Option (DecodeError × ℕ)
 fails bytes = failure bytes (walk bytes)
-
--- the same for the steps of an entry's form alone, over the bytes after the opcode byte
-abbrev pub form_fails : Entry → Fields → List ℕ → Option (DecodeError × ℕ)
-form_fails entry f bytes = failure bytes (walk_form entry f bytes)
 
 -- the last step: the settings must permit the opcode of the row that was chosen
 abbrev pub refused : List Bool → List ℕ → Reading (Row × Syntax) → Option (DecodeError × ℕ)

@@ -1,22 +1,8 @@
 use Rattle.std.specs.Prelude.{◌≡◌, ℕ, ◌+◌, ◌-◌, ◌*◌, ◌≤◌, Bool, false, List, [], ◌∷◌}
 use Rattle.x86_address.specs.Bytes.{bit}
-use Rattle.vex_rows.specs.declared.key.Map.{Map}
 use Rattle.vex_rows.specs.declared.key.Map.TheVariants.{Map0F}
-use Rattle.vex_rows.specs.declared.key.Pp.{Pp}
-use Rattle.vex_rows.specs.declared.key.Prefix.{Prefix}
 use Rattle.vex_rows.specs.Rules.{map_number, pp_number}
-
--- the fields of a prefix, those that stand inverted in its bytes put right (Intel SDM volume 2, sections 2.3.5 and
--- 2.3.6)
-pub record Fields : Type 0 where
-  pub map : Map
-  pub pp : Pp
-  pub w : Bool
-  pub l : ℕ
-  pub r : ℕ
-  pub x : Bool
-  pub b : Bool
-  pub v : ℕ
+use Rattle.vex_forms.specs.Fields.{Fields}
 
 -- the form of a prefix: two bytes from C5 on, or three from C4 on
 pub data PrefixForm : Type 0 where
@@ -51,16 +37,3 @@ pub record IsPrefix (form : PrefixForm) (f : Fields) : Type 0 where
   pub r : f.r ≤ 1
   pub v : f.v ≤ 15
   pub can_say : CanSay form f
-
--- the fields of a prefix that the code keeps
-abbrev pub fields_of : Prefix → Fields
-fields_of p = record {
-  map = p.map;
-  pp = p.pp;
-  w = p.w;
-  l = bit p.l;
-  r = bit p.r;
-  x = p.x;
-  b = p.b;
-  v = p.vvvv;
-}

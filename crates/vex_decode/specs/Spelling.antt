@@ -7,7 +7,8 @@ use Rattle.vex_forms.specs.declared.slot.VvvvRule.{VvvvRule}
 use Rattle.vex_forms.specs.declared.slot.VvvvRule.TheVariants.{Named, Zero, Free}
 use Rattle.vex_forms.specs.Slots.{v_rule}
 use Rattle.vex_forms.specs.Gives.{gives}
-use Rattle.vex_decode.specs.Fields.{Fields, PrefixForm, prefix_bytes, IsPrefix}
+use Rattle.vex_forms.specs.Fields.{Fields}
+use Rattle.vex_decode.specs.Fields.{PrefixForm, prefix_bytes, IsPrefix}
 
 -- the parts of a spelling: the form of its prefix, the prefix fields, the reg field, the place of E, the immediate
 -- byte. A part that isn't written is 0 or no place.

@@ -13,7 +13,7 @@ use Rattle.vex_rows.specs.Row.{Row}
 use Rattle.vex_forms.specs.declared.row_layout.RowLayout.{RowLayout}
 use Rattle.vex_forms.specs.Slots.{slots, names_g, names_v, names_e, names_imm}
 use Rattle.vex_forms.specs.Layout.{IsLayout, row_for}
-use Rattle.vex_decode.specs.Fields.{fields_of}
+use Rattle.vex_forms.specs.Fields.{fields_of}
 use Rattle.vex_decode.proofs.Prefix.{bit-is_one}
 use Rattle.vex_encode.specs.declared.operands.OperandFields.{OperandFields}
 use Rattle.vex_encode.specs.Standard.{operand_of_kind, number_of, imm_of, target_of, reg_for, candidate}

@@ -17,7 +17,8 @@ use Rattle.vex_rows.specs.Table.{table}
 use Rattle.vex_rows.specs.Row.{rows, choices, exists, has_groups, opcode_of, has_imm}
 use Rattle.vex_forms.specs.Slots.{slots, index_bank, size_of, v_rule}
 use Rattle.vex_forms.specs.Gives.{gives}
-use Rattle.vex_decode.specs.Walk.{walk, walk_form, entry_of}
+use Rattle.vex_forms.specs.FormWalk.{walk_form}
+use Rattle.vex_decode.specs.Walk.{walk, entry_of}
 use Rattle.vex_decode.specs.Blocked.{fails}
 use Rattle.vex_encode.specs.Standard.{standard, candidate}
 use Rattle.vex_encode.specs.Canon.{all_standard, canon}

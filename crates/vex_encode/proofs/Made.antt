@@ -11,7 +11,8 @@ use Rattle.vex_rows.specs.Row.{Row, exists}
 use Rattle.vex_forms.specs.declared.row_layout.RowLayout.{RowLayout}
 use Rattle.vex_forms.specs.Layout.{IsLayout}
 use Rattle.vex_forms.specs.Gives.{gives}
-use Rattle.vex_decode.specs.Fields.{Fields, fields_of, prefix_bytes}
+use Rattle.vex_forms.specs.Fields.{Fields, fields_of}
+use Rattle.vex_decode.specs.Fields.{prefix_bytes}
 use Rattle.vex_decode.specs.Spelling.{bytes_of, meant, imm_bytes}
 use Rattle.vex_encode.specs.declared.operands.OperandFields.{OperandFields}
 use Rattle.vex_encode.specs.Standard.{candidate, standard, shortest_form}

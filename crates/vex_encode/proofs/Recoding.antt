@@ -9,7 +9,8 @@ use Rattle.x86_address.specs.Bytes.{IsBytes}
 use Rattle.vex_rows.specs.Row.{opcode_of}
 use Rattle.vex_decode.specs.Spelling.{bytes_of, Spells}
 use Rattle.vex_decode.specs.Walk.{walk}
-use Rattle.vex_decode.specs.Blocked.{blocked, refused, taken}
+use Rattle.vex_forms.specs.FormWalk.{taken}
+use Rattle.vex_decode.specs.Blocked.{blocked, refused}
 use Rattle.vex_decode.proofs.Walk.{Walked, walk-written}
 use Rattle.vex_decode.proofs.Spells.{opcode_meant, take-taken, spells-not_blocked}
 use Rattle.vex_encode.specs.Canon.{canon}

@@ -107,10 +107,10 @@ no_memory_row entry w l group none modrm = by (exists (row_at entry w l InMemory
   by true e =
       let row : Row = row_at entry w l InMemory group in
       let checks = (both-parts _ (list_all (permits_choice row) (checks_of entry)) e).1 in
-      let front = (list_all-front (permits_choice row) ((steps entry.form).first ++ (steps entry.form).second) (steps entry.form).third checks).0 in
-      let second = (list_all-front (permits_choice row) (steps entry.form).first (steps entry.form).second front).1 in
-      let any = register_if (steps entry.form).address (list_any is_register_check (steps entry.form).second) (addressed_form entry modrm) none in
-      cc (register_only row (steps entry.form).second any second)
+      let front = (list_all-front (permits_choice row) ((steps entry.form).before_modrm ++ (steps entry.form).after_modrm) (steps entry.form).after_address checks).0 in
+      let second = (list_all-front (permits_choice row) (steps entry.form).before_modrm (steps entry.form).after_modrm front).1 in
+      let any = register_if (steps entry.form).address (list_any is_register_check (steps entry.form).after_modrm) (addressed_form entry modrm) none in
+      cc (register_only row (steps entry.form).after_modrm any second)
 
 shorter_none : (o : Option (List ℕ)) → shorter_of o None ≡ o
 shorter_none None = refl

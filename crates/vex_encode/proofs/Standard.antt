@@ -26,7 +26,8 @@ use Rattle.vex_forms.specs.Slots.{slots, index_bank, size_of, v_rule, names_g, n
 use Rattle.vex_forms.specs.Gives.{gives, slot_operand}
 use Rattle.vex_forms.specs.Tests.{immediates}
 use Rattle.vex_forms.proofs.Sound.{sound_row, v_rule-zero}
-use Rattle.vex_decode.specs.Fields.{Fields, PrefixForm, C4, C5, FitsTwoBytes, CanSay, prefix_bytes}
+use Rattle.vex_forms.specs.Fields.{Fields}
+use Rattle.vex_decode.specs.Fields.{PrefixForm, C4, C5, FitsTwoBytes, CanSay, prefix_bytes}
 use Rattle.vex_decode.specs.Spelling.{Syntax, imm_bytes, bytes_of, meant, FitsRule, FitsGroup, FitsReg, FitsImm, IsSyntax, SpellsBy}
 use Rattle.vex_decode.proofs.Form.{alone_form}
 use Rattle.vex_encode.specs.Standard.{operand_of_kind, number_of, imm_of, target_of, fits_two_bytes, shortest_form, fields_for, reg_for, candidate, standard}
@@ -136,7 +137,7 @@ group_none false gs group h (inr e) = absurd e
 group_alone : (row : Row) → Chosen row → (steps row.entry.form).modrm ≡ false → row.group ≡ None
 unfolding has_groups
 group_alone row chosen alone =
-    let none : list_any is_group_check (steps row.entry.form).second ≡ false = ap (list_any is_group_check) (alone_form row.entry alone).second in
+    let none : list_any is_group_check (steps row.entry.form).after_modrm ≡ false = ap (list_any is_group_check) (alone_form row.entry alone).second in
     group_none (has_groups row.entry.form) (groups row.entry.form row.l) row.group none chosen.group
 
 module _ (row : Row) (m : Meaning) (is_row : IsRow row) where

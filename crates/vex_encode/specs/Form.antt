@@ -4,7 +4,7 @@ use Rattle.x86_operand.specs.declared.error.DecodeError.{DecodeError}
 use Rattle.x86_operand.specs.Kind.{Kind, WithoutModRM, InRegister, InMemory}
 use Rattle.x86_address.specs.Place.{Place, NoPlace, Direct}
 use Rattle.x86_address.specs.Reading.{Reading}
-use Rattle.vex_decode.specs.Walk.{Operands}
+use Rattle.vex_forms.specs.FormWalk.{Operands}
 use Rattle.vex_encode.specs.declared.form.FormParts.{FormParts}
 use Rattle.vex_encode.specs.declared.form.Kind.{Kind as CodeKind}
 use Rattle.vex_encode.specs.declared.form.Kind.TheVariants as code

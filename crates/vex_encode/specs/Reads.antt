@@ -4,7 +4,8 @@ use Rattle.std.specs.Borrow.{Bor}
 use Rattle.x86_operand.specs.declared.error.DecodeError.{DecodeError}
 use Rattle.x86_address.specs.Reading.{Reading}
 use Rattle.vex_rows.specs.declared.key.Prefix.{Prefix}
-use Rattle.vex_decode.specs.Fields.{Fields, PrefixForm, fields_of}
+use Rattle.vex_forms.specs.Fields.{Fields, fields_of}
+use Rattle.vex_decode.specs.Fields.{PrefixForm}
 
 -- what a function that reads a slice answers is what a reading of its bytes answers: the value, seen by view, and the
 -- bytes that are left, or the error

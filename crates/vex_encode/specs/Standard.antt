@@ -9,7 +9,8 @@ use Rattle.vex_rows.specs.Rules.{map_number}
 use Rattle.vex_rows.specs.Row.{Row}
 use Rattle.vex_forms.specs.declared.slot.Slot.{Slot}
 use Rattle.vex_forms.specs.Slots.{slots, names_g, names_v, names_e, names_imm}
-use Rattle.vex_decode.specs.Fields.{Fields, PrefixForm, C4, C5}
+use Rattle.vex_forms.specs.Fields.{Fields}
+use Rattle.vex_decode.specs.Fields.{PrefixForm, C4, C5}
 use Rattle.vex_decode.specs.Spelling.{Syntax, bytes_of, meant}
 
 -- the operand at the first slot of a kind, nothing where there is none

@@ -5,9 +5,11 @@ use Rattle.x86_operand.specs.declared.error.DecodeError.{DecodeError}
 use Rattle.x86_address.specs.Reading.{Reading}
 use Rattle.vex_rows.specs.declared.entry.Entry.{Entry}
 use Rattle.vex_rows.specs.Row.{Row, Among}
-use Rattle.vex_decode.specs.Fields.{PrefixForm, fields_of}
+use Rattle.vex_forms.specs.Fields.{fields_of}
+use Rattle.vex_decode.specs.Fields.{PrefixForm}
 use Rattle.vex_decode.specs.Spelling.{Syntax}
-use Rattle.vex_decode.specs.Walk.{row_of, syntax_of}
+use Rattle.vex_forms.specs.FormWalk.{row_of}
+use Rattle.vex_decode.specs.Walk.{syntax_of}
 use Rattle.vex_encode.specs.declared.walk.InstructionParts.{InstructionParts}
 use Rattle.vex_encode.specs.Form.{parts_seen}
 

@@ -1,7 +1,7 @@
 //! Reading bytes from the front of a slice.
 
 ghost use Rattle.x86_address.specs.Reading.{take_byte};
-ghost use Rattle.vex_decode.specs.Walk.{take_imm};
+ghost use Rattle.vex_forms.specs.FormWalk.{take_imm};
 ghost use Rattle.vex_encode.specs.Reads.{Gives};
 
 use x86_operand::DecodeError;

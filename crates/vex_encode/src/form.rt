@@ -4,8 +4,8 @@ ghost use Rattle.std.specs.Prelude.{◌≡◌, ◌==◌, ◌/◌, ◌%◌, ◌<�
 ghost use Rattle.x86_address.specs.Bytes.{bit};
 ghost use Rattle.vex_rows.specs.Groups.{groups};
 ghost use Rattle.vex_rows.specs.Steps.{steps, steps_seen};
-ghost use Rattle.vex_decode.specs.Fields.{fields_of};
-ghost use Rattle.vex_decode.specs.Walk.{passes, refusal, check_all, kind_of_mod, walk_modrm, walk_alone, walk_form};
+ghost use Rattle.vex_forms.specs.Fields.{fields_of};
+ghost use Rattle.vex_forms.specs.FormWalk.{passes, refusal, check_all, kind_of_mod, walk_modrm, walk_alone, walk_form};
 ghost use Rattle.vex_encode.specs.Form.{kind_seen, parts_seen, ChecksGive};
 ghost use Rattle.vex_encode.specs.Reads.{Gives};
 
@@ -102,8 +102,8 @@ fn parts_from_modrm<'a>(
 {
     let (modrm, rest) = first_byte(bytes)?;
     let reg = modrm / 8 % 8;
-    do_checks(form.second, entry, prefix, kind_of(modrm), reg)?;
-    do_checks(form.third, entry, prefix, kind_of(modrm), reg)?;
+    do_checks(form.after_modrm, entry, prefix, kind_of(modrm), reg)?;
+    do_checks(form.after_address, entry, prefix, kind_of(modrm), reg)?;
     let (imm, rest) = immediate(form.imm, rest)?;
     let parts = FormParts {
         reg,
@@ -127,7 +127,7 @@ fn parts_alone<'a>(form: &Steps, bytes: &'a [u8]) -> Result<(FormParts, &'a [u8]
 }
 
 /// Does the steps of an entry's form over the bytes after the opcode byte, for a form that reads no address.
-#[tactic(auto, unfolding(vex_decode::specs::Walk::walk_form))]
+#[tactic(auto, unfolding(vex_forms::specs::FormWalk::walk_form))]
 pub fn form_parts<'a>(
     entry: &Entry,
     prefix: &Prefix,
@@ -137,7 +137,7 @@ pub fn form_parts<'a>(
     ensures { Gives parts_seen result (walk_form entry.now (fields_of prefix.now) bytes.now) }
 {
     let form = steps_of(entry.form);
-    do_checks(form.first, entry, prefix, Kind::WithoutModRM, 0)?;
+    do_checks(form.before_modrm, entry, prefix, Kind::WithoutModRM, 0)?;
     if form.modrm {
         parts_from_modrm(&form, entry, prefix, bytes)
     } else {

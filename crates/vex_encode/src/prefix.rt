@@ -1,7 +1,8 @@
 //! Reading a VEX prefix (Intel SDM volume 2, sections 2.3.5 and 2.3.6).
 
 ghost use Rattle.std.specs.Prelude.{◌≡◌, ◌==◌, ◌<◌, ◌%◌, ◌/◌, ◌^◌};
-ghost use Rattle.vex_decode.specs.Fields.{PrefixForm, C4, C5, fields_of};
+ghost use Rattle.vex_forms.specs.Fields.{fields_of};
+ghost use Rattle.vex_decode.specs.Fields.{PrefixForm, C4, C5};
 ghost use Rattle.vex_decode.specs.Walk.{pp_of, map_of, fields_of_two, fields_of_three, read_fields, read_prefix};
 ghost use Rattle.vex_encode.specs.Reads.{Gives, ReadsPrefix};
 

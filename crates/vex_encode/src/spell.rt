@@ -4,7 +4,8 @@ ghost use Rattle.std.specs.Prelude.{◌≡◌, ◌<◌, ◌≤◌, ◌+◌, ◌*
 ghost use Rattle.x86_address.specs.Bytes.{bit};
 ghost use Rattle.x86_address.specs.Place.{place_bytes};
 ghost use Rattle.vex_rows.specs.Rules.{map_number, pp_number};
-ghost use Rattle.vex_decode.specs.Fields.{fields_of, low_byte, prefix_bytes};
+ghost use Rattle.vex_forms.specs.Fields.{fields_of};
+ghost use Rattle.vex_decode.specs.Fields.{low_byte, prefix_bytes};
 ghost use Rattle.vex_decode.specs.Spelling.{imm_bytes};
 ghost use Rattle.vex_encode.specs.Standard.{fits_two_bytes, shortest_form};
 ghost use Rattle.vex_encode.specs.Assembly.{place_for};

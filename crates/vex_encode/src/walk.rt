@@ -3,7 +3,7 @@
 ghost use Rattle.std.specs.Prelude.{IfOk};
 ghost use Rattle.vex_rows.specs.Row.{Among};
 ghost use Rattle.vex_rows.specs.Table.{table};
-ghost use Rattle.vex_decode.specs.Fields.{fields_of};
+ghost use Rattle.vex_forms.specs.Fields.{fields_of};
 ghost use Rattle.vex_decode.specs.Walk.{key_of, entry_of, found, walk};
 ghost use Rattle.vex_encode.specs.Reads.{Gives};
 ghost use Rattle.vex_encode.specs.Facts.{ChooseRow, TakesSpelling};

@@ -99,8 +99,8 @@ field-among false gs reg h = inl refl
 check-among : (entry : Entry) → has_groups entry.form ≡ true → Among Group (checks_of entry)
 unfolding has_groups
 check-among entry h =
-    among-append_left Group ((steps entry.form).first ++ (steps entry.form).second) (steps entry.form).third
-    (among-append_right Group (steps entry.form).first (steps entry.form).second (group_check-among (steps entry.form).second h))
+    among-append_left Group ((steps entry.form).before_modrm ++ (steps entry.form).after_modrm) (steps entry.form).after_address
+    (among-append_right Group (steps entry.form).before_modrm (steps entry.form).after_modrm (group_check-among (steps entry.form).after_modrm h))
 
 -- a group that the check permits
 permitted : (row : Row) (reg : ℕ) → row.group ≡ Some reg → permits_choice row Group ≡ true → is_group (groups row.entry.form row.l) reg ≡ true

@@ -64,7 +64,7 @@ abbrev pub named : Row → Bool
 named row = list_any names_v (slots_of row.entry.form row)
 
 abbrev pub demanded : Row → Bool
-demanded row = list_any (demands_v row.kind) (steps row.entry.form).first || list_any (demands_v row.kind) (steps row.entry.form).third
+demanded row = list_any (demands_v row.kind) (steps row.entry.form).before_modrm || list_any (demands_v row.kind) (steps row.entry.form).after_address
 
 -- the parts of the test of a row
 pub record Sound (row : Row) : Type 0 where

@@ -3,3 +3,5 @@ pub mod Gives
 pub mod Tests
 pub mod Layout
 pub mod Laws
+pub mod Fields
+pub mod FormWalk

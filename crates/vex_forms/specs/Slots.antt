@@ -334,5 +334,5 @@ demands_v kind _ = false
 unfoldable pub v_rule : Row → VvvvRule
 v_rule row =
     if list_any names_v (slots row) then Named
-    else if list_any (demands_v row.kind) (steps row.entry.form).first || list_any (demands_v row.kind) (steps row.entry.form).third
+    else if list_any (demands_v row.kind) (steps row.entry.form).before_modrm || list_any (demands_v row.kind) (steps row.entry.form).after_address
     then Zero else Free

@@ -18,7 +18,7 @@ abbrev pub is_sound : Form → Row → Bool
 is_sound form row =
     nat_le (immediates (slots_of form row)) (if (steps form).imm then 1 else 0)
     && not (list_any names_v (slots_of form row)
-    && (list_any (demands_v row.kind) (steps form).first || list_any (demands_v row.kind) (steps form).third))
+    && (list_any (demands_v row.kind) (steps form).before_modrm || list_any (demands_v row.kind) (steps form).after_address))
     && ((steps form).modrm || not (list_any names_g (slots_of form row)))
 
 -- whether no field is named twice: at most one slot each names reg, vvvv and the operand E

@@ -30,7 +30,7 @@ fn has_groups(form: Form) -> bool
     ensures { result ≡ has_groups form }
 {
     steps_of(form)
-        .second
+        .after_modrm
         .iter()
         .any(|check| is_group_check(*check))
 }
@@ -125,9 +125,9 @@ impl Choice {
         let steps = steps_of(self.entry.form);
         self.entry.w.allows(self.w)
             && self.entry.l.allows(self.l)
-            && self.permits_all(steps.first)
-            && self.permits_all(steps.second)
-            && self.permits_all(steps.third)
+            && self.permits_all(steps.before_modrm)
+            && self.permits_all(steps.after_modrm)
+            && self.permits_all(steps.after_address)
     }
 
     /// Whether the choice is a row: it is possible, and it exists.
@@ -196,7 +196,7 @@ impl Choice {
         let steps = steps_of(self.entry.form);
         if names_vvvv(self.slots().as_slice()) {
             VvvvRule::Named
-        } else if self.any_demands_zero(steps.first) || self.any_demands_zero(steps.third) {
+        } else if self.any_demands_zero(steps.before_modrm) || self.any_demands_zero(steps.after_address) {
             VvvvRule::Zero
         } else {
             VvvvRule::Free

@@ -12,7 +12,7 @@ use Rattle.vex_rows.proofs.Lists.{among-map, from-map, among-flat_map, from-flat
 
 -- all checks of an entry's form, in their order
 abbrev pub checks_of : Entry → List Check
-checks_of entry = (steps entry.form).first ++ (steps entry.form).second ++ (steps entry.form).third
+checks_of entry = (steps entry.form).before_modrm ++ (steps entry.form).after_modrm ++ (steps entry.form).after_address
 
 -- what makes a row one of all rows
 pub record Chosen (row : Row) : Type 0 where

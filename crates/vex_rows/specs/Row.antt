@@ -41,7 +41,7 @@ is_group_check _ = false
 
 -- whether a form has groups
 unfoldable pub has_groups : Form → Bool
-has_groups form = list_any is_group_check (steps form).second
+has_groups form = list_any is_group_check (steps form).after_modrm
 
 -- the opcode of a group, the announced one where there is none
 abbrev pub group_opcode : List (ℕ × Opcode) → Option ℕ → Opcode → Opcode
@@ -86,7 +86,7 @@ opcode_of row = opcode_by row.entry.form row
 unfoldable pub exists : Row → Bool
 exists row =
     allows row.entry.w row.w && allows row.entry.l (row.l == 1)
-    && list_all (permits_choice row) ((steps row.entry.form).first ++ (steps row.entry.form).second ++ (steps row.entry.form).third)
+    && list_all (permits_choice row) ((steps row.entry.form).before_modrm ++ (steps row.entry.form).after_modrm ++ (steps row.entry.form).after_address)
 
 -- the kinds that a form may have
 abbrev pub kinds_of : Form → List Kind

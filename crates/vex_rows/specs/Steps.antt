@@ -7,24 +7,24 @@ use Rattle.vex_rows.specs.declared.form.Form.TheVariants.{Nothing, VPS_71, VPS_7
 
 -- the steps of a form in their order: checks, the ModRM byte, checks, SIB and displacement, checks, the immediate byte
 pub record FormSteps : Type 0 where
-  pub first : List Check
+  pub before_modrm : List Check
   pub modrm : Bool
-  pub second : List Check
+  pub after_modrm : List Check
   pub address : Bool
-  pub third : List Check
+  pub after_address : List Check
   pub imm : Bool
 
 -- a form without ModRM
 abbrev pub alone : List Check → FormSteps
-alone first = record { first = first; modrm = false; second = []; address = false; third = []; imm = false }
+alone before_modrm = record { before_modrm = before_modrm; modrm = false; after_modrm = []; address = false; after_address = []; imm = false }
 
 -- a form whose ModRM byte names a register, so that nothing follows it for the operand E
 abbrev pub direct : List Check → List Check → Bool → FormSteps
-direct first second imm = record { first = first; modrm = true; second = second; address = false; third = []; imm = imm }
+direct before_modrm after_modrm imm = record { before_modrm = before_modrm; modrm = true; after_modrm = after_modrm; address = false; after_address = []; imm = imm }
 
 -- a form that reads an address
 abbrev pub addressed : List Check → List Check → List Check → Bool → FormSteps
-addressed first second third imm = record { first = first; modrm = true; second = second; address = true; third = third; imm = imm }
+addressed before_modrm after_modrm after_address imm = record { before_modrm = before_modrm; modrm = true; after_modrm = after_modrm; address = true; after_address = after_address; imm = imm }
 
 -- the steps of each form
 unfoldable pub steps : Form → FormSteps
@@ -101,10 +101,10 @@ steps G_ExyL_V_xyLmm = addressed [] [] [] false
 -- the steps that the code keeps as slices
 abbrev pub steps_seen : Steps → FormSteps
 steps_seen s = record {
-  first = s.first.now;
+  before_modrm = s.before_modrm.now;
   modrm = s.modrm;
-  second = s.second.now;
+  after_modrm = s.after_modrm.now;
   address = s.address;
-  third = s.third.now;
+  after_address = s.after_address.now;
   imm = s.imm;
 }

@@ -63,6 +63,6 @@ is_none _ = false
 -- register
 abbrev pub is_orderly : FormSteps → Bool
 is_orderly form =
-    list_all is_prefix_check form.first && list_all is_modrm_check form.second && list_all is_late_check form.third
-    && (if form.modrm then form.address || list_any is_register_check form.second
-    else is_none form.second && is_none form.third && not form.address)
+    list_all is_prefix_check form.before_modrm && list_all is_modrm_check form.after_modrm && list_all is_late_check form.after_address
+    && (if form.modrm then form.address || list_any is_register_check form.after_modrm
+    else is_none form.after_modrm && is_none form.after_address && not form.address)

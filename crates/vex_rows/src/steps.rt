@@ -28,62 +28,62 @@ pub enum Check {
 #[derive(Clone, Copy, Debug)]
 pub struct Steps {
     /// Checks before the ModRM byte.
-    pub first: &'static [Check],
+    pub before_modrm: &'static [Check],
     /// Whether there is a ModRM byte.
     pub modrm: bool,
     /// Checks after the ModRM byte.
-    pub second: &'static [Check],
+    pub after_modrm: &'static [Check],
     /// Whether SIB and displacement are read, where ModRM says that they are there.
     pub address: bool,
     /// Checks after the address.
-    pub third: &'static [Check],
+    pub after_address: &'static [Check],
     /// Whether there is an immediate byte.
     pub imm: bool,
 }
 
 /// A form without ModRM.
-fn alone(first: &'static [Check]) -> Steps
-    ensures { steps_seen result ≡ alone first.now }
+fn alone(before_modrm: &'static [Check]) -> Steps
+    ensures { steps_seen result ≡ alone before_modrm.now }
 {
     Steps {
-        first,
+        before_modrm,
         modrm: false,
-        second: &[],
+        after_modrm: &[],
         address: false,
-        third: &[],
+        after_address: &[],
         imm: false,
     }
 }
 
 /// A form whose ModRM byte names a register, so that nothing follows it for the operand E.
-fn direct(first: &'static [Check], second: &'static [Check], imm: bool) -> Steps
-    ensures { steps_seen result ≡ direct first.now second.now imm }
+fn direct(before_modrm: &'static [Check], after_modrm: &'static [Check], imm: bool) -> Steps
+    ensures { steps_seen result ≡ direct before_modrm.now after_modrm.now imm }
 {
     Steps {
-        first,
+        before_modrm,
         modrm: true,
-        second,
+        after_modrm,
         address: false,
-        third: &[],
+        after_address: &[],
         imm,
     }
 }
 
 /// A form that reads an address.
 fn addressed(
-    first: &'static [Check],
-    second: &'static [Check],
-    third: &'static [Check],
+    before_modrm: &'static [Check],
+    after_modrm: &'static [Check],
+    after_address: &'static [Check],
     imm: bool,
 ) -> Steps
-    ensures { steps_seen result ≡ addressed first.now second.now third.now imm }
+    ensures { steps_seen result ≡ addressed before_modrm.now after_modrm.now after_address.now imm }
 {
     Steps {
-        first,
+        before_modrm,
         modrm: true,
-        second,
+        after_modrm,
         address: true,
-        third,
+        after_address,
         imm,
     }
 }

@@ -85,11 +85,11 @@ fn forms_have_their_steps(rt: HostRuntime) -> Result<(), Fail> {
     ];
     for (form, first, modrm, second, address, third, imm) in wanted {
         let steps = steps_of(form);
-        assert_eq!(rt; steps.first, first, "{form:?}");
+        assert_eq!(rt; steps.before_modrm, first, "{form:?}");
         assert_eq!(rt; steps.modrm, modrm, "{form:?}");
-        assert_eq!(rt; steps.second, second, "{form:?}");
+        assert_eq!(rt; steps.after_modrm, second, "{form:?}");
         assert_eq!(rt; steps.address, address, "{form:?}");
-        assert_eq!(rt; steps.third, third, "{form:?}");
+        assert_eq!(rt; steps.after_address, third, "{form:?}");
         assert_eq!(rt; steps.imm, imm, "{form:?}");
     }
     Ok(())

@@ -15,7 +15,8 @@ use Rattle.vex_rows.specs.Steps.{steps}
 use Rattle.vex_rows.specs.Table.{table}
 use Rattle.vex_forms.specs.Gives.{gives}
 use Rattle.vex_forms.specs.Slots.{slots, index_bank, size_of, v_rule}
-use Rattle.vex_decode.specs.Walk.{entry_of, walk_form, walk}
+use Rattle.vex_forms.specs.FormWalk.{walk_form}
+use Rattle.vex_decode.specs.Walk.{entry_of, walk}
 use Rattle.vex_encode.specs.Canon.{canon}
 use Rattle.vex_encode.specs.Standard.{candidate, standard}
 use Rattle.vex_tool.specs.declared.command.Profile.TheVariants.{Default, Minimal}

@@ -7,7 +7,8 @@ use Rattle.x86_operand.specs.Errors.{decode_error_name}
 use Rattle.x86_operand.specs.Meaning.{Meaning}
 use Rattle.vex_decode.specs.Spelling.{meant, Spells}
 use Rattle.vex_decode.specs.Walk.{walk}
-use Rattle.vex_decode.specs.Blocked.{blocked, taken}
+use Rattle.vex_forms.specs.FormWalk.{taken}
+use Rattle.vex_decode.specs.Blocked.{blocked}
 use Rattle.vex_decode.proofs.Spells.{walk-spelling}
 use Rattle.vex_encode.specs.Canon.{canon}
 use Rattle.vex_tool.specs.ErrorLine.{error_line}

@@ -15,7 +15,8 @@ use Rattle.x86_address.specs.Reading.{Reading}
 use Rattle.vex_rows.specs.Row.{Row}
 use Rattle.vex_decode.specs.Spelling.{Syntax, meant}
 use Rattle.vex_decode.specs.Walk.{walk}
-use Rattle.vex_decode.specs.Blocked.{blocked, taken}
+use Rattle.vex_forms.specs.FormWalk.{taken}
+use Rattle.vex_decode.specs.Blocked.{blocked}
 use Rattle.vex_encode.specs.Canon.{canon}
 use Rattle.vex_tool.specs.ErrorLine.{error_line}
 use Rattle.vex_tool.specs.declared.command.Profile.{Profile}

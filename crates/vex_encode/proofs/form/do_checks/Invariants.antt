@@ -1,7 +1,7 @@
 -- The checks so far have passed, so that all checks give what those from here on give.
 use Rattle.std.proofs.Common.{◌≡◌, ℕ, List, drop}
-use Rattle.vex_decode.specs.Fields.{fields_of}
-use Rattle.vex_decode.specs.Walk.{check_all}
+use Rattle.vex_forms.specs.Fields.{fields_of}
+use Rattle.vex_forms.specs.FormWalk.{check_all}
 use Rattle.vex_encode.specs.Form.{kind_seen}
 use Rattle.vex_encode.proofs.form.do_checks.Given as goal
 
