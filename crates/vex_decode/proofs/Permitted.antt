@@ -1,6 +1,6 @@
 -- Further settings permit no less: every row has a VEX opcode, whose condition is a conjunction of bits.
 use Rattle.std.specs.Prelude.{◌≡◌, refl, true, false, not, Bool, ℕ, List, [], ◌∷◌, map, filter}
-use Rattle.std.proofs.Common.{ap, ◌∙◌, subst}
+use Rattle.std.proofs.Common.{ap, ◌∙◌, subst, sym}
 use Rattle.x86_opcode.specs.declared.Opcode.{Opcode}
 use Rattle.x86_opcode.specs.Vex.{is_vex}
 use Rattle.x86_opcode.proofs.Vex.{vex_part, is_vex-vex_part}
@@ -8,7 +8,7 @@ use Rattle.x86_settings.specs.Bits.{is_set}
 use Rattle.x86_settings.specs.Sets.{all_set}
 use Rattle.x86_permit.specs.Permission.{permits}
 use Rattle.x86_permit.specs.LeastSettings.{least}
-use Rattle.x86_permit.proofs.Laws.{least_settings}
+use Rattle.x86_permit.specs.LeastSettings.Laws.{permits-least}
 use Rattle.vex_rows.specs.Groups.{groups}
 use Rattle.vex_rows.specs.Steps.{steps}
 use Rattle.vex_rows.specs.Table.{table}
@@ -45,4 +45,4 @@ pub permits-more : (settings more : List Bool) → AreWithin settings more → (
 permits-more settings more within row is_row h =
     let o = opcode_of row in
     let vex = is_vex-row row is_row in
-    (least_settings more o vex).1 (all_set-more settings more within (least o) ((least_settings settings o vex).0 h))
+    permits-least more o vex ∙ all_set-more settings more within (least o) (sym (permits-least settings o vex) ∙ h)

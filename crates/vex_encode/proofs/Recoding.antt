@@ -1,16 +1,19 @@
 -- What a decode, the permission and the canonical bytes say together.
-use Rattle.std.specs.Prelude.{◌≡◌, refl, ◌↔◌, ℕ, Bool, true, false, List, take, Some, None, Result, Ok, Err, IsOk, IfOk, IfErr}
-use Rattle.std.proofs.Common.{arith, ap, sym, ◌∙◌}
+use Rattle.std.specs.Prelude.{◌≡◌, refl, ◌↔◌, ℕ, Bool, true, false, List, take, Some, None, Result, Ok, Err, IsOk, IfOk, IfErr, IsTrue}
+use Rattle.std.proofs.Common.{arith, ap, sym, ◌∙◌, subst}
 use Rattle.x86_operand.specs.declared.error.DecodeError.{DecodeError}
 use Rattle.x86_operand.specs.declared.error.DecodeError.TheVariants.{InvalidOpcode}
 use Rattle.x86_operand.specs.Meaning.{Meaning, Decoded}
 use Rattle.x86_permit.specs.Permission.{permits}
 use Rattle.x86_address.specs.Bytes.{IsBytes}
+use Rattle.x86_opcode.specs.Vex.{is_vex}
 use Rattle.vex_rows.specs.Row.{opcode_of}
+use Rattle.vex_forms.specs.Gives.{gives}
 use Rattle.vex_decode.specs.Spelling.{bytes_of, Spells}
 use Rattle.vex_decode.specs.Walk.{walk}
 use Rattle.vex_forms.specs.FormWalk.{taken}
 use Rattle.vex_decode.specs.Blocked.{blocked, refused}
+use Rattle.vex_decode.proofs.Permitted.{is_vex-row}
 use Rattle.vex_decode.proofs.Walk.{Walked, walk-written}
 use Rattle.vex_decode.proofs.Spells.{opcode_meant, take-taken, spells-not_blocked}
 use Rattle.vex_encode.specs.Canon.{canon}
@@ -24,6 +27,18 @@ module _ (settings : List Bool) (bytes : List ℕ) (decoded : Decoded) (is : IsB
 
   opcode_is : decoded.meaning.opcode ≡ opcode_of found.row
   opcode_is = ap (λ (m : Meaning). m.opcode) found.means ∙ opcode_meant found.row found.syntax
+
+  -- the instruction has no EVEX mark, and a VEX opcode
+  unmarked : decoded.meaning.evex ≡ false
+  unfolding gives
+  unmarked = ap (λ (m : Meaning). m.evex) found.means
+
+  pub has_vex_opcode : IsTrue (is_vex decoded.meaning.opcode)
+  has_vex_opcode = ap is_vex opcode_is ∙ is_vex-row found.row walked.is_row
+
+  -- by the mark that it has
+  pub permitted_unmarked : (answer : Bool) → permits settings decoded.meaning.evex decoded.meaning.opcode ≡ answer → permits settings false decoded.meaning.opcode ≡ answer
+  permitted_unmarked answer e = ap (λ (mark : Bool). permits settings mark decoded.meaning.opcode) (sym unmarked) ∙ e
 
   -- the bytes that were taken spell the meaning
   pub spelled : Spells (take decoded.len bytes) decoded.meaning
@@ -59,6 +74,12 @@ module _ (settings : List Bool) (bytes : List ℕ) (decoded : Decoded) (is : IsB
         same = spells;
         accepted = spells-not_blocked settings spelling decoded.meaning spells permitted;
       }
+
+  -- the same where the permission has changed nothing
+  pub recodes_revised : (revised : Decoded) (spelling : List ℕ) → revised ≡ decoded → permits settings decoded.meaning.evex decoded.meaning.opcode ≡ true → canon revised.meaning ≡ Some spelling → RecodesAs settings bytes revised spelling
+  recodes_revised revised spelling same permitted canonical =
+      let e = ap (λ (d : Decoded). canon d.meaning) (sym same) ∙ canonical in
+      subst (λ d. RecodesAs settings bytes d spelling) (sym same) (recodes spelling (permitted_unmarked true permitted) e)
 
 -- a walk that fails blocks the bytes
 pub walk_blocked : (settings : List Bool) (bytes rest : List ℕ) (error : DecodeError) → walk bytes ≡ Err (error, rest) → blocked settings bytes ≡ Some (error, taken bytes rest)

@@ -9,7 +9,6 @@ mod form;
 mod instruction;
 pub mod laws;
 mod operands;
-mod permit;
 mod prefix;
 mod recoder;
 mod slot_kind;

@@ -9,19 +9,17 @@ ghost use Rattle.vex_encode.specs.Recode.{Recodes};
 
 use crate::decode::decode;
 use crate::encode::canonical;
-use crate::permit::is_permitted;
 use crate::spelling::Spelling;
 use x86_operand::{DecodeError, Instruction};
+use x86_permit::revise_instruction;
 use x86_settings::InstDecoder;
 
 /// The instruction and its canonical bytes, with all that is known of them at once.
 fn recode_all(decoder: &InstDecoder, bytes: &[u8]) -> Result<(Instruction, Spelling), DecodeError>
     ensures { Recodes decoder.now bytes.now result }
 {
-    let instruction = decode(bytes)?;
-    if !is_permitted(decoder, instruction.opcode()) {
-        return Err(DecodeError::InvalidOpcode);
-    }
+    let mut instruction = decode(bytes)?;
+    revise_instruction(decoder, &mut instruction)?;
     match canonical(&instruction) {
         Some(spelling) => Ok((instruction, spelling)),
         None => unreachable!(),

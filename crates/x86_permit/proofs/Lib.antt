@@ -1,4 +1,3 @@
 mod Bits
 mod ReadBits
-mod VexConditions
-pub mod Laws
+mod Permits

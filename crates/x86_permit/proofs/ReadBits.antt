@@ -3,7 +3,8 @@ use Rattle.std.proofs.Common.{◌≡◌, ℕ, Bool, true, false, not, ◌&&◌, 
 use Rattle.std.specs.List.{list_all}
 use Rattle.std.proofs.lemmas.Bool.{and_parts}
 use Rattle.x86_opcode.specs.declared.Opcode.{Opcode}
-use Rattle.x86_opcode.specs.declared.Opcode.TheVariants.{Marked}
+use Rattle.x86_opcode.specs.declared.Opcode.TheVariants.{Legacy, Marked}
+use Rattle.x86_opcode.specs.declared.LegacyOpcode.TheVariants.{TZCNT}
 use Rattle.x86_opcode.specs.declared.MarkedOpcode.TheVariants as marked
 use Rattle.x86_opcode.specs.declared.condition.Condition.{Condition}
 use Rattle.x86_opcode.specs.declared.condition.Condition.TheVariants as on
@@ -83,7 +84,8 @@ permits-same s t same true o =
 
 revised-same : (s t : List Bool) → AgreeOnReadBits s t → (mark : Bool) (o : Opcode) → revised s mark o ≡ revised t mark o
 unfolding revised
-revised-same s t same mark o = rw (same 25 refl)
+revised-same s t same mark (Legacy TZCNT) = rw (same 25 refl)
+revised-same s t same mark _ = refl
 
 pub other_bits : OtherBitsChangeNothing
 other_bits = record { permitted = permits-same; becomes = revised-same }

@@ -1,10 +1,11 @@
+-- Which instructions settings permit, and what these become.
+pub mod Laws
 use Rattle.std.specs.Prelude.{ℕ, Bool, true, false, ◌&&◌, ◌||◌, not, if◌then◌else◌, List, [], ◌∷◌, Option, Some, None}
 use Rattle.x86_opcode.specs.declared.Opcode.{Opcode}
 use Rattle.x86_opcode.specs.declared.Opcode.TheVariants.{BSF, Legacy}
 use Rattle.x86_opcode.specs.declared.LegacyOpcode.TheVariants.{TZCNT}
 use Rattle.x86_opcode.specs.declared.condition.Condition.{Condition}
 use Rattle.x86_opcode.specs.declared.condition.Condition.TheVariants as on
-use Rattle.x86_opcode.specs.Number.{same_opcode}
 use Rattle.x86_opcode.specs.Condition.{opcode_condition}
 use Rattle.x86_opcode.specs.Mark.{marked_bit}
 use Rattle.x86_settings.specs.Bits.{is_set}
@@ -63,5 +64,5 @@ permits s true opcode = all_set s avx512 || (all_set s marked_baseline && own_bi
 
 -- the opcode that a permitted instruction has then: an unmarked TZCNT is a BSF where `bmi1` isn't set
 unfoldable pub revised : List Bool → Bool → Opcode → Opcode
-revised s mark opcode =
-    if not mark && (same_opcode opcode (Legacy TZCNT) && not (is_set s bmi1)) then BSF else opcode
+revised s mark (Legacy TZCNT) = if not mark && not (is_set s bmi1) then BSF else Legacy TZCNT
+revised s mark opcode = opcode

@@ -1,32 +1,15 @@
-//! Which instructions settings permit, and the least settings of those in VEX form: the definitions,
-//! and the laws that hold of them.
+//! Which instructions settings permit, and the least settings of those in VEX form.
 #![tactic(auto)]
 
-ghost use Rattle.x86_permit.specs.Laws.{AllSettingsPermitAll, LeastSettingsPermit, MoreSettingsPermitMore, OtherBitsChangeNothing, VexOpcodesStay};
+mod laws;
+mod least;
+mod permission;
+#[cfg(test)]
+mod tests;
 
-/// The law on least settings: an instruction with a VEX opcode is permitted exactly where all bits of
-/// its least settings are set.
-pub fn least_settings_permit()
-    ensures { LeastSettingsPermit }
-{}
-
-/// The law on further settings: a bit more never makes an instruction with a VEX opcode refused.
-pub fn more_settings_permit_more()
-    ensures { MoreSettingsPermitMore }
-{}
-
-/// The law on revision: an instruction with a VEX opcode keeps it under all settings.
-pub fn vex_opcodes_stay()
-    ensures { VexOpcodesStay }
-{}
-
-/// The law on all settings: where all 128 bits are set, each instruction is permitted.
-pub fn all_settings_permit_all()
-    ensures { AllSettingsPermitAll }
-{}
-
-/// The law on other settings: the bits that no condition reads change neither what is permitted nor
-/// what a permitted instruction becomes.
-pub fn other_bits_change_nothing()
-    ensures { OtherBitsChangeNothing }
-{}
+pub use laws::{
+    all_settings_permit_all, least_settings_permit, more_settings_permit_more,
+    other_bits_change_nothing, vex_opcodes_stay,
+};
+pub use least::least_settings;
+pub use permission::revise_instruction;

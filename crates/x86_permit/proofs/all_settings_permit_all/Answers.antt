@@ -1,5 +1,0 @@
-use Rattle.x86_permit.proofs.Laws.{all_settings}
-use Rattle.x86_permit.proofs.all_settings_permit_all.Goals as goal
-
-pub returns : goal.returns
-returns c = all_settings
