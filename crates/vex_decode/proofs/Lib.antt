@@ -5,6 +5,8 @@ pub mod Walk
 pub mod Spells
 pub mod SpellingBytes
 pub mod Readers
+pub mod Fronts
+pub mod Refusing
 pub mod Permitted
 pub mod SpellingLaws
 pub mod Computed

@@ -1,6 +1,7 @@
 -- The laws of spellings.
-use Rattle.std.specs.Prelude.{◌≡◌, ◌≢◌, ◌↔◌, ℕ, ◌≤◌, Bool, false, List, ◌++◌, length, take, Some, None, Ok, IsTrue}
-use Rattle.x86_operand.specs.declared.error.DecodeError.TheVariants.{ExhaustedInput}
+use Rattle.std.specs.Prelude.{◌≡◌, ◌≢◌, ◌↔◌, ℕ, ◌≤◌, Bool, false, List, ◌∷◌, ◌++◌, length, take, Some, None, Ok, IsTrue}
+use Rattle.x86_operand.specs.declared.error.DecodeError.{DecodeError}
+use Rattle.x86_operand.specs.declared.error.DecodeError.TheVariants.{ExhaustedInput, InvalidOpcode, Outside}
 use Rattle.x86_operand.specs.Meaning.{Meaning}
 use Rattle.x86_permit.specs.Permission.{permits}
 use Rattle.x86_settings.specs.Bits.{is_set}
@@ -8,7 +9,7 @@ use Rattle.x86_address.specs.Bytes.{IsBytes, Begins}
 use Rattle.vex_rows.specs.Row.{Row, IsRow}
 use Rattle.vex_decode.specs.Spelling.{Syntax, IsSyntax, bytes_of, Spells}
 use Rattle.vex_decode.specs.Walk.{walk}
-use Rattle.vex_decode.specs.Blocked.{blocked}
+use Rattle.vex_decode.specs.Blocked.{fails, blocked}
 
 -- of two spellings of which one begins the other, the one is the other
 abbrev pub PrefixFree : Type 0
@@ -81,3 +82,44 @@ abbrev pub SameAnswer : Type 0
 SameAnswer =
     (settings other : List Bool) (bytes : List ℕ) (m m' : Meaning) (n n' : ℕ)
     → Decodes settings bytes m n → Decodes other bytes m' n' → (m ≡ m') × (n ≡ n')
+
+-- where bytes are blocked after n of them, those n alone are blocked by the same error, after all of them
+abbrev pub FirstBytes : Type 0
+FirstBytes =
+    (settings : List Bool) (bytes : List ℕ) (error : DecodeError) (n : ℕ) → blocked settings bytes ≡ Some (error, n) → blocked settings (take n bytes) ≡ Some (error, n)
+
+-- bytes are blocked after at most 11 of them
+abbrev pub AtMostEleven : Type 0
+AtMostEleven =
+    (settings : List Bool) (bytes : List ℕ) (error : DecodeError) (n : ℕ) → blocked settings bytes ≡ Some (error, n) → (n ≤ length bytes) × (n ≤ 11)
+
+-- the settings come last: where a step before them fails, its error blocks the bytes
+abbrev pub SettingsLast : Type 0
+SettingsLast = (settings : List Bool) (bytes : List ℕ) (error : DecodeError) (n : ℕ) → fails bytes ≡ Some (error, n) → blocked settings bytes ≡ Some (error, n)
+
+-- the first byte is there and is neither C4 nor C5
+pub record BeginsOutside (bytes : List ℕ) : Type 0 where
+  pub first : ℕ
+  pub rest : List ℕ
+  pub is : bytes ≡ first ∷ rest
+  pub not_two : first ≢ 0xC5
+  pub not_three : first ≢ 0xC4
+
+-- exactly such bytes are blocked by `Outside`, after one byte
+abbrev pub OutsideExactly : Type 0
+OutsideExactly = (settings : List Bool) (bytes : List ℕ) (n : ℕ) → blocked settings bytes ≡ Some (Outside, n) ↔ ((n ≡ 1) × BeginsOutside bytes)
+
+-- the first n bytes spell a meaning whose opcode the settings don't permit
+pub record BeginsRefused (settings : List Bool) (bytes : List ℕ) (n : ℕ) : Type 0 where
+  pub front : List ℕ
+  pub begins : Begins front bytes
+  pub whole : length front ≡ n
+  pub m : Meaning
+  pub spells : Spells front m
+  pub refused : permits settings m.evex m.opcode ≡ false
+
+-- exactly on such bytes no step fails but the settings
+abbrev pub SettingsAlone : Type 0
+SettingsAlone =
+    (settings : List Bool) (bytes : List ℕ) (n : ℕ) → IsBytes bytes
+    → ((fails bytes ≡ None) × (blocked settings bytes ≡ Some (InvalidOpcode, n))) ↔ BeginsRefused settings bytes n

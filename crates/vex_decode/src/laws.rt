@@ -1,6 +1,6 @@
 //! What holds of all spellings, each law as the contract of a function that does nothing.
 
-ghost use Rattle.vex_decode.specs.Laws.{PrefixFree, SpellingLength, SpellingBytes, OneMeaning, ReadingIsSpelling, BlockedOrBegun, MoreBytes, ExhaustedAtEnd, MoreSettings, SameAnswer};
+ghost use Rattle.vex_decode.specs.Laws.{PrefixFree, SpellingLength, SpellingBytes, OneMeaning, ReadingIsSpelling, BlockedOrBegun, MoreBytes, ExhaustedAtEnd, MoreSettings, SameAnswer, FirstBytes, AtMostEleven, SettingsLast, OutsideExactly, SettingsAlone};
 
 /// If one spelling begins another they are equal, and every spelling is a string of 3 to 11 bytes.
 pub fn prefix_free()
@@ -26,6 +26,21 @@ pub fn blocked_or_begun()
     ensures begun { BlockedOrBegun }
     ensures more { MoreBytes }
     ensures exhausted { ExhaustedAtEnd }
+{}
+
+/// Where bytes are blocked after n of them, n is at most 11, and those n bytes alone are blocked by the same error, after
+/// all of them.
+pub fn blocked_by_first_bytes()
+    ensures alone { FirstBytes }
+    ensures most { AtMostEleven }
+{}
+
+/// `Outside` comes exactly where the first byte is there and is neither C4 nor C5. The settings are tested last, and no
+/// step fails but they exactly where the bytes begin with a spelling whose opcode they don't permit.
+pub fn causes_of_refusals()
+    ensures outside { OutsideExactly }
+    ensures last { SettingsLast }
+    ensures settings { SettingsAlone }
 {}
 
 /// Setting further bits never turns an answer into an error, and no bit changes the meaning or the length.

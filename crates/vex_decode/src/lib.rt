@@ -3,4 +3,7 @@
 
 mod laws;
 
-pub use laws::{blocked_or_begun, more_settings, one_meaning, prefix_free, reading_is_spelling};
+pub use laws::{
+    blocked_by_first_bytes, blocked_or_begun, causes_of_refusals, more_settings, one_meaning,
+    prefix_free, reading_is_spelling,
+};
