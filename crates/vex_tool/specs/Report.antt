@@ -8,7 +8,7 @@ use Rattle.vex_tool.specs.declared.report.LineError.{LineError}
 use Rattle.vex_tool.specs.declared.report.LineError.TheVariants.{LongLine, BadHex}
 use Rattle.vex_tool.specs.ErrorLine.{error_line}
 use Rattle.vex_tool.specs.Lines.{lines}
-use Rattle.vex_tool.specs.ResultLine.{result_line, settings_of}
+use Rattle.vex_tool.specs.ResultLine.{result_line}
 
 -- the name of an error
 abbrev pub line_error_name : LineError → List ℕ
@@ -35,7 +35,7 @@ code line = if nat_lt 8192 (length line) then Err LongLine else or_bad_hex (deco
 -- what is written for a line of this code
 abbrev pub code_report : Command → Result (List ℕ) LineError → List ℕ
 code_report command (Err e) = error_line (line_error_name e)
-code_report (Recode profile) (Ok bytes) = result_line (settings_of profile) bytes
+code_report (Recode settings) (Ok bytes) = result_line settings bytes
 
 -- what is written for a line
 unfoldable pub report : Command → List ℕ → List ℕ

@@ -10,7 +10,6 @@ use Rattle.x86_operand.specs.declared.register.RegisterBank.TheVariants.{Q, D, X
 use Rattle.x86_operand.specs.Errors.{decode_error_name}
 use Rattle.x86_operand.specs.Register.{Register}
 use Rattle.x86_operand.specs.Meaning.{OperandMeaning, register, signed, unsigned, memory, nothing, Meaning}
-use Rattle.x86_settings.specs.Bits.{all_bits, no_bits}
 use Rattle.x86_address.specs.Reading.{Reading}
 use Rattle.vex_rows.specs.Row.{Row}
 use Rattle.vex_decode.specs.Spelling.{Syntax, meant}
@@ -19,8 +18,6 @@ use Rattle.vex_forms.specs.FormWalk.{taken}
 use Rattle.vex_decode.specs.Blocked.{blocked}
 use Rattle.vex_encode.specs.Canon.{canon}
 use Rattle.vex_tool.specs.ErrorLine.{error_line}
-use Rattle.vex_tool.specs.declared.command.Profile.{Profile}
-use Rattle.vex_tool.specs.declared.command.Profile.TheVariants.{Default, Minimal}
 
 -- a register of this bank and number: the letter of the bank and the number, or `rip`
 abbrev pub register_text_in : RegisterBank → ℕ → List ℕ
@@ -63,11 +60,6 @@ abbrev pub instruction_line : ℕ → Meaning → List ℕ → List ℕ
 instruction_line n m bytes =
     decimal n ++ codes " " ++ opcode_name m.opcode ++ operands_text m.operands ++ codes " " ++ decimal (unwrap_or m.size 0)
     ++ codes " " ++ encode_lower bytes ++ codes "\n"
-
--- the settings of a profile
-abbrev pub settings_of : Profile → List Bool
-settings_of Default = all_bits
-settings_of Minimal = no_bits
 
 -- the line of what a decode has read of some bytes
 abbrev pub line_of_reading : List ℕ → Reading (Row × Syntax) → List ℕ

@@ -39,6 +39,7 @@ pub trait Source {
         // A failed read is seen in the count of faults, and in nothing else.
         ensures cause { OnErr result (RoseOrIsLast (faults self.old) (faults self.new)) }
         ensures keeps { OnErr result (Keeps (left self.old) (left self.new)) }
+        ensures keeps_places { OnErr result (into.new ≡ into.old) }
         ensures keeps_number { OnErr result (given self.new ≡ given self.old) }
         ensures never_falls { faults self.old ≤ faults self.new };
 }

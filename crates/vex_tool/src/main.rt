@@ -21,6 +21,8 @@ use std_ends::{StdSink, StdSource};
 use words::{MAX_WORD_LEN, Words};
 
 mod command;
+#[cfg(test)]
+mod edge_tests;
 mod ends;
 mod input;
 mod laws;

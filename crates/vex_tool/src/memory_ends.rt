@@ -69,6 +69,7 @@ impl Source for MemSource<'_> {
         ensures quiet { OnOk result (self.new.faults ≡ self.old.faults) }
         ensures cause { OnErr result (RoseOrIsLast self.old.faults self.new.faults) }
         ensures keeps { OnErr result (Keeps (Some self.old.left) (Some self.new.left)) }
+        ensures keeps_places { OnErr result (into.new ≡ into.old) }
         ensures keeps_number { OnErr result (self.new.given ≡ self.old.given) }
         ensures never_falls { self.old.faults ≤ self.new.faults }
 

@@ -84,7 +84,7 @@ fn write_code_report<K: Sink>(command: &Command, bytes: &[u8], sink: &mut K) -> 
     ensures { Writes result (K.text sink.old) (K.text sink.new) (K.faults sink.old) (K.faults sink.new) (code_report command.now (Ok bytes.now)) }
 {
     match command {
-        Command::Recode(profile) => write_result_line(&profile.settings(), bytes, sink),
+        Command::Recode(settings) => write_result_line(settings, bytes, sink),
     }
 }
 

@@ -53,6 +53,7 @@ impl<R: Read> Source for StdSource<R> {
         ensures counts { IfOk result (λ n. self.new.given ≡ counted self.old.given n) }
         ensures quiet { OnOk result (self.new.faults ≡ self.old.faults) }
         ensures cause { OnErr result (RoseOrIsLast self.old.faults self.new.faults) }
+        ensures keeps_places { OnErr result (into.new ≡ into.old) }
         ensures keeps_number { OnErr result (self.new.given ≡ self.old.given) }
         ensures never_falls { self.old.faults ≤ self.new.faults }
 
