@@ -1,6 +1,8 @@
 //! What no clause says of the edges of the program: how its ends call a reader and a writer of std, and how its
 //! arguments become words.
 
+ghost use Rattle.std.specs.Prelude.{None};
+
 use crate::ends::{Failed, Source};
 use crate::memory_ends::{MemSink, MemSource};
 use crate::status::Status;
@@ -204,9 +206,10 @@ impl Source for Asked {
 }
 
 // The arguments of a command line, of which the first is the program's name.
-struct Arguments<'a>(&'a [&'a [u8]]);
+#[derive(Drop)]
+struct Arguments(&'static [&'static [u8]]);
 
-impl Env for Arguments<'_> {
+impl Env for Arguments {
     fn arg(&self, i: usize, buf: &mut [u8]) -> Result<usize, FillError> {
         let Some(&argument) = self.0.get(i) else {
             return Err(FillError::NotPresent);
@@ -227,25 +230,27 @@ impl Env for Arguments<'_> {
     }
 }
 
+const LONG: &[u8] = b"xxxxxxxxxxxxxxxxxxxxxxxxxxxxxxxxxxxxxxxxxxxxxxxxxxxxxxxxxxxxxxxxx";
+
+const NO_TEXT: &[u8] = b"\xFFx";
+
+// Command lines, and the statuses that they end with.
+const COMMAND_LINES: [(&[&[u8]], u8); 10] = [
+    (&[b"vex_tool", b"recode", b"sandybridge"], 0),
+    (&[LONG, b"recode", b"sandybridge"], 0),
+    (&[b"vex_tool"], 2),
+    (&[], 2),
+    (&[b"vex_tool", b"recode"], 2),
+    (&[b"vex_tool", b"recode", b"default", LONG], 2),
+    (&[b"vex_tool", b"recode", LONG, b"default"], 2),
+    (&[b"vex_tool", b"recode", b"default", NO_TEXT], 2),
+    (&[b"vex_tool", NO_TEXT, b"recode", b"default"], 2),
+    (&[b"vex_tool", b"recode", b"default", b"", b"", b""], 2),
+];
+
 #[test]
 fn each_argument_is_a_word_or_refuses_the_run(rt: HostRuntime) {
-    let long = b"xxxxxxxxxxxxxxxxxxxxxxxxxxxxxxxxxxxxxxxxxxxxxxxxxxxxxxxxxxxxxxxxx".as_slice();
-    let verb = b"recode".as_slice();
-    let name = b"sandybridge".as_slice();
-    let other = b"\xFFx".as_slice();
-    let cases: [(&[&[u8]], u8); 10] = [
-        (&[b"vex_tool", verb, name], 0),
-        (&[long, verb, name], 0),
-        (&[b"vex_tool"], 2),
-        (&[], 2),
-        (&[b"vex_tool", verb], 2),
-        (&[b"vex_tool", verb, name, long], 2),
-        (&[b"vex_tool", verb, long, name], 2),
-        (&[b"vex_tool", verb, name, other], 2),
-        (&[b"vex_tool", other, verb, name], 2),
-        (&[b"vex_tool", verb, name, b"", b"", b""], 2),
-    ];
-    for (at, (arguments, code)) in cases.into_iter().enumerate() {
+    for (at, &(arguments, code)) in COMMAND_LINES.iter().enumerate() {
         let mut words = Words::new();
         push_arguments(&Arguments(arguments), &mut words);
         let mut source = Asked { calls: 0 };
