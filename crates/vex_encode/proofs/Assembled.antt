@@ -15,9 +15,10 @@ use Rattle.vex_forms.specs.Slots.{slots, names_g, names_v, names_e, names_imm}
 use Rattle.vex_forms.specs.Layout.{IsLayout, row_for}
 use Rattle.vex_forms.specs.Fields.{fields_of}
 use Rattle.vex_decode.proofs.Prefix.{bit-is_one}
-use Rattle.vex_encode.specs.declared.operands.OperandFields.{OperandFields}
+use Rattle.vex_forms.specs.declared.operand_fields.OperandFields.{OperandFields}
+use Rattle.vex_forms.specs.declared.operand_e.OperandE.TheVariants.{Absent, Register}
 use Rattle.vex_encode.specs.Standard.{operand_of_kind, number_of, imm_of, target_of, reg_for, candidate}
-use Rattle.vex_encode.specs.Operands.{target_seen}
+use Rattle.vex_forms.specs.Operands.{target_seen}
 use Rattle.vex_encode.specs.Assembly.{Assembles, place_for}
 use Rattle.vex_encode.proofs.Chosen.{l_seen}
 
@@ -33,12 +34,12 @@ b_upper : (modrm : Bool) (o : OperandMeaning) → b_of (target_of (kind_by modrm
 b_upper true o = refl
 b_upper false o = refl
 
-place_made : (modrm : Bool) (o : OperandMeaning) → place_for (if modrm then Some (number_of o % 16) else None) ≡ shortest (target_of (kind_by modrm) o)
+place_made : (modrm : Bool) (o : OperandMeaning) → place_for (if modrm then Register (number_of o % 16) else Absent) ≡ shortest (target_of (kind_by modrm) o)
 unfolding shortest
 place_made true o = ap Direct (omega arith)
 place_made false o = refl
 
-target_made : (modrm : Bool) (o : OperandMeaning) → target_seen (if modrm then Some (number_of o % 16) else None) ≡ target (shortest (target_of (kind_by modrm) o)) (x_of (target_of (kind_by modrm) o)) (b_of (target_of (kind_by modrm) o))
+target_made : (modrm : Bool) (o : OperandMeaning) → target_seen (if modrm then Register (number_of o % 16) else Absent) ≡ target (shortest (target_of (kind_by modrm) o)) (x_of (target_of (kind_by modrm) o)) (b_of (target_of (kind_by modrm) o))
 unfolding shortest
 target_made true o = ap Number (omega (arith, bit-is_one ((number_of o / 8) % 2) (omega arith)))
 target_made false o = refl
@@ -51,8 +52,8 @@ reg_made (Some group) g = refl
 pub record IsCandidate (row : Row) (m : Meaning) (prefix : Prefix) (numbers : OperandFields) : Type 0 where
   pub fields : fields_of prefix ≡ (candidate row m).fields
   pub reg : numbers.reg ≡ (candidate row m).reg
-  pub place : place_for numbers.register ≡ (candidate row m).place
-  pub named : target_seen numbers.register ≡ target (candidate row m).place (candidate row m).fields.x (candidate row m).fields.b
+  pub place : place_for numbers.e ≡ (candidate row m).place
+  pub named : target_seen numbers.e ≡ target (candidate row m).place (candidate row m).fields.x (candidate row m).fields.b
   pub imm : numbers.imm ≡ (candidate row m).imm
 
 pub assembled_is : (entry : Entry) (w l : Bool) (group : ℕ) (layout : RowLayout) (m : Meaning) (prefix : Prefix) (numbers : OperandFields) →
@@ -72,7 +73,7 @@ assembled_is entry w l group layout m prefix numbers is made =
     let x : prefix.x ≡ x_of (target_of (kind_by (steps entry.form).modrm) e) = made.x ∙ sym (x_none (steps entry.form).modrm e) in
     let b : prefix.b ≡ b_of (target_of (kind_by (steps entry.form).modrm) e) = made.b ∙ ap₂ (λ h o. h && ((number_of o / 8) % 2 == 1)) modrm e_is ∙ sym (b_upper (steps entry.form).modrm e) in
     let v : prefix.vvvv ≡ number_of (operand_of_kind names_v (slots row) m.operands) % 16 = made.vvvv ∙ ap (λ v. v % 16) v_is in
-    let register : numbers.register ≡ (if (steps entry.form).modrm then Some (number_of e % 16) else None) = made.register ∙ ap₂ (λ h o. if h then Some (number_of o % 16) else None) modrm e_is in
+    let register : numbers.e ≡ (if (steps entry.form).modrm then Register (number_of e % 16) else Absent) = made.e ∙ ap₂ (λ h o. if h then Register (number_of o % 16) else Absent) modrm e_is in
     record {
       fields = λ i. record { map = made.map i; pp = made.pp i; w = made.w_is i; l = l_is i; r = r i; x = x i; b = b i; v = v i };
       reg = made.reg ∙ ap₂ (λ group g. unwrap_or group (g % 8)) is.group g_is ∙ reg_made row.group _;

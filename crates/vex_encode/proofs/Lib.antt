@@ -6,12 +6,9 @@ pub mod CanonLaws
 pub mod Conditions
 pub mod Refusals
 pub mod Direct
-pub mod Fit
 pub mod FirstSlot
 pub mod Assembled
 pub mod Search
 pub mod Made
 pub mod Recoding
-pub mod Mapped
 pub mod Chosen
-pub mod MeaningGiven

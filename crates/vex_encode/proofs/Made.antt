@@ -14,9 +14,9 @@ use Rattle.vex_forms.specs.Gives.{gives}
 use Rattle.vex_forms.specs.Fields.{Fields, fields_of}
 use Rattle.vex_decode.specs.Fields.{prefix_bytes}
 use Rattle.vex_decode.specs.Spelling.{bytes_of, meant, imm_bytes}
-use Rattle.vex_encode.specs.declared.operands.OperandFields.{OperandFields}
+use Rattle.vex_forms.specs.declared.operand_fields.OperandFields.{OperandFields}
 use Rattle.vex_encode.specs.Standard.{candidate, standard, shortest_form}
-use Rattle.vex_encode.specs.Operands.{target_seen}
+use Rattle.vex_forms.specs.Operands.{target_seen}
 use Rattle.vex_encode.specs.Assembly.{place_for}
 use Rattle.vex_encode.specs.Encode.{standard_of}
 use Rattle.vex_encode.proofs.Assembled.{IsCandidate}
@@ -28,14 +28,14 @@ form_of_candidate row m = refl
 module _ (row : Row) (layout : RowLayout) (m : Meaning) (prefix : Prefix) (numbers : OperandFields)
     (is : IsLayout row layout) (made : IsCandidate row m prefix numbers) (same_r : numbers.r ≡ prefix.r) (same_v : numbers.vvvv ≡ prefix.vvvv) where
   -- the meaning that the code gives
-  pub meaning_made : gives row (bit numbers.r) numbers.vvvv numbers.reg (target_seen numbers.register) numbers.imm ≡ meant row (candidate row m)
+  pub meaning_made : gives row (bit numbers.r) numbers.vvvv numbers.reg (target_seen numbers.e) numbers.imm ≡ meant row (candidate row m)
   meaning_made =
       let r : bit numbers.r ≡ (candidate row m).fields.r = ap bit same_r ∙ ap (λ (f : Fields). f.r) made.fields in
       let v : numbers.vvvv ≡ (candidate row m).fields.v = same_v ∙ ap (λ (f : Fields). f.v) made.fields in
       λ i. gives row (r i) (v i) (made.reg i) (made.named i) (made.imm i)
 
   -- the bytes that the code writes
-  pub bytes_made : prefix_bytes (shortest_form (fields_of prefix)) (fields_of prefix) ++ row.entry.byte ∷ (place_bytes numbers.reg (place_for numbers.register) ++ imm_bytes layout.has_imm numbers.imm) ≡ bytes_of row (candidate row m)
+  pub bytes_made : prefix_bytes (shortest_form (fields_of prefix)) (fields_of prefix) ++ row.entry.byte ∷ (place_bytes numbers.reg (place_for numbers.e) ++ imm_bytes layout.has_imm numbers.imm) ≡ bytes_of row (candidate row m)
   bytes_made =
       let front : prefix_bytes (shortest_form (fields_of prefix)) (fields_of prefix) ≡ prefix_bytes (candidate row m).form (candidate row m).fields =
       ap (λ f. prefix_bytes (shortest_form f) f) made.fields ∙ ap (λ form. prefix_bytes form (candidate row m).fields) (sym (form_of_candidate row m)) in

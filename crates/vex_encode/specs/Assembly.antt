@@ -1,13 +1,17 @@
 -- Private functions alone cite what stands here.
-use Rattle.std.specs.Prelude.{◌≡◌, ◌/◌, ◌%◌, ◌==◌, ◌&&◌, ℕ, Bool, false, Option, Some, None, unwrap_or, if◌then◌else◌}
+use Rattle.std.specs.Prelude.{◌≡◌, ◌≢◌, ◌/◌, ◌%◌, ◌==◌, ◌&&◌, ℕ, Bool, false, unwrap_or, if◌then◌else◌}
 use Rattle.x86_operand.specs.Meaning.{Meaning}
-use Rattle.x86_address.specs.Place.{Place, NoPlace, Direct}
+use Rattle.x86_address.specs.Place.{Place, NoPlace, Direct, At}
+use Rattle.x86_address.specs.Shortest.{shortest, plain}
+use Rattle.x86_operand.specs.declared.address.Address.{Address}
 use Rattle.vex_rows.specs.declared.entry.Entry.{Entry}
 use Rattle.vex_rows.specs.declared.key.Prefix.{Prefix}
 use Rattle.vex_forms.specs.declared.row_layout.RowLayout.{RowLayout}
 use Rattle.vex_forms.specs.declared.slot.Slot.{Slot}
 use Rattle.vex_forms.specs.Slots.{names_g, names_v, names_e, names_imm}
-use Rattle.vex_encode.specs.declared.operands.OperandFields.{OperandFields}
+use Rattle.vex_forms.specs.declared.operand_fields.OperandFields.{OperandFields}
+use Rattle.vex_forms.specs.declared.operand_e.OperandE.{OperandE}
+use Rattle.vex_forms.specs.declared.operand_e.OperandE.TheVariants.{Absent, Register, Memory}
 use Rattle.vex_encode.specs.declared.slot_kind.SlotKind.{SlotKind}
 use Rattle.vex_encode.specs.declared.slot_kind.SlotKind.TheVariants as kind
 use Rattle.vex_encode.specs.Standard.{operand_of_kind, number_of, imm_of}
@@ -19,10 +23,15 @@ names kind.V slot = names_v slot
 names kind.E slot = names_e slot
 names kind.Immediate slot = names_imm slot
 
--- the place of a register's number, or of no operand
-abbrev pub place_for : Option ℕ → Place
-place_for None = NoPlace
-place_for (Some n) = Direct (n % 8)
+-- the shortest place of the operand E
+abbrev pub place_for : OperandE → Place
+place_for Absent = NoPlace
+place_for (Register n) = Direct (n % 8)
+place_for (Memory address) = shortest (At (plain address))
+
+-- the operand E is no address
+abbrev pub IsDirect : OperandE → Type 0
+IsDirect e = (address : Address) → e ≢ Memory address
 
 -- the number that the operand at the slot of the field reg has
 abbrev pub g_of : RowLayout → Meaning → ℕ
@@ -53,5 +62,5 @@ pub record Assembles (entry : Entry) (w l : Bool) (layout : RowLayout) (m : Mean
   pub same_r : numbers.r ≡ prefix.r
   pub same_vvvv : numbers.vvvv ≡ prefix.vvvv
   pub reg : numbers.reg ≡ unwrap_or layout.group (g_of layout m % 8)
-  pub register : numbers.register ≡ (if layout.has_modrm then Some (e_of layout m % 16) else None)
+  pub e : numbers.e ≡ (if layout.has_modrm then Register (e_of layout m % 16) else Absent)
   pub imm : numbers.imm ≡ immediate_of layout m

@@ -6,17 +6,17 @@ use Rattle.x86_address.specs.Place.{target}
 use Rattle.x86_address.specs.Reading.{Reading}
 use Rattle.vex_rows.specs.Row.{Row}
 use Rattle.vex_decode.specs.Spelling.{Syntax, meant}
-use Rattle.vex_encode.specs.declared.operands.OperandFields.{OperandFields}
+use Rattle.vex_forms.specs.declared.operand_fields.OperandFields.{OperandFields}
 use Rattle.vex_encode.specs.declared.walk.InstructionParts.{InstructionParts}
 use Rattle.vex_encode.specs.Form.{place_seen}
-use Rattle.vex_encode.specs.Operands.{target_seen}
+use Rattle.vex_forms.specs.Operands.{target_seen}
 
 -- what the slots take their operands from, by the parts that were read
 pub record IsNumbersOf (parts : InstructionParts) (numbers : OperandFields) : Type 0 where
   pub r : numbers.r ≡ parts.prefix.r
   pub vvvv : numbers.vvvv ≡ parts.prefix.vvvv
   pub reg : numbers.reg ≡ parts.form.reg
-  pub register : target_seen numbers.register ≡ target (place_seen parts.form.rm) parts.prefix.x parts.prefix.b
+  pub e : target_seen numbers.e ≡ target (place_seen parts.form.rm) parts.prefix.x parts.prefix.b
   pub imm : numbers.imm ≡ parts.form.imm
 
 -- what a walk that answered says: the row and the parts, what they mean, and how many bytes were taken

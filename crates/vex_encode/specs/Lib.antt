@@ -3,7 +3,6 @@ pub mod Canon
 pub mod Reads
 pub mod Form
 pub mod Walk
-pub mod Operands
 pub mod Facts
 pub mod Decodes
 pub mod Assembly

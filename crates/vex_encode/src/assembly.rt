@@ -4,9 +4,8 @@ ghost use Rattle.std.specs.Prelude.{◌≡◌, ◌≤◌, ◌<◌, length};
 ghost use Rattle.std.specs.Option.{ForSome};
 ghost use Rattle.vex_encode.specs.Assembly.{Assembles};
 
-use crate::operands::OperandFields;
 use crate::slot_kind::{SlotKind, imm_of, number_of, operand_of};
-use vex_forms::RowLayout;
+use vex_forms::{OperandE, OperandFields, RowLayout};
 use vex_rows::{Entry, Prefix};
 use x86_operand::Instruction;
 
@@ -43,7 +42,11 @@ pub fn assemble(
         r: prefix.r,
         vvvv: prefix.vvvv,
         reg: layout.group.unwrap_or(g % 8),
-        register: if layout.has_modrm { Some(e % 16) } else { None },
+        e: if layout.has_modrm {
+            OperandE::Register(e % 16)
+        } else {
+            OperandE::Absent
+        },
         imm,
     };
     (prefix, numbers)

@@ -4,10 +4,8 @@ ghost use Rattle.vex_decode.specs.Walk.{walk};
 ghost use Rattle.vex_encode.specs.Decodes.{DecodesWithoutSettings, IsNumbersOf};
 ghost use Rattle.vex_encode.specs.Facts.{ChooseRow};
 
-use crate::instruction::instruction_of;
-use crate::operands::OperandFields;
 use crate::walk::{InstructionParts, read_row};
-use vex_forms::layout;
+use vex_forms::{OperandE, OperandFields, instruction_of, layout};
 use x86_operand::{DecodeError, Instruction};
 
 /// What the slots of the chosen row take their operands from.
@@ -20,7 +18,10 @@ fn numbers_of(parts: &InstructionParts) -> OperandFields
         r: parts.prefix.r,
         vvvv: parts.prefix.vvvv,
         reg: parts.form.reg,
-        register: parts.form.rm.map(|rm| rm + upper),
+        e: match parts.form.rm {
+            Some(rm) => OperandE::Register(rm + upper),
+            None => OperandE::Absent,
+        },
         imm: parts.form.imm,
     }
 }

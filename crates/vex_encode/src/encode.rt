@@ -8,10 +8,9 @@ ghost use Rattle.vex_encode.specs.Canon.{canon};
 ghost use Rattle.vex_encode.specs.Encode.{standard_of, shorter_of, best};
 
 use crate::assembly::assemble;
-use crate::instruction::instruction_of;
 use crate::spell::spell;
 use crate::spelling::Spelling;
-use vex_forms::layout;
+use vex_forms::{instruction_of, layout};
 use vex_rows::{Entry, entry_at, entry_count};
 use x86_operand::Instruction;
 

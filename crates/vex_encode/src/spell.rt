@@ -8,11 +8,11 @@ ghost use Rattle.vex_forms.specs.Fields.{fields_of};
 ghost use Rattle.vex_decode.specs.Fields.{low_byte, prefix_bytes};
 ghost use Rattle.vex_decode.specs.Spelling.{imm_bytes};
 ghost use Rattle.vex_encode.specs.Standard.{fits_two_bytes, shortest_form};
-ghost use Rattle.vex_encode.specs.Assembly.{place_for};
+ghost use Rattle.vex_encode.specs.Assembly.{IsDirect, place_for};
 
-use crate::operands::OperandFields;
 use crate::prefix::{THREE_BYTES, TWO_BYTES};
 use crate::spelling::Spelling;
+use vex_forms::{OperandE, OperandFields};
 use vex_rows::{Map, Pp, Prefix};
 
 /// The number of an opcode map in a three-byte prefix.
@@ -77,14 +77,17 @@ fn prefix_spelling(prefix: &Prefix) -> Spelling
 
 /// The bytes of a spelling: prefix, opcode byte, ModRM where there is a register, and the immediate where there is one.
 pub fn spell(prefix: &Prefix, byte: u8, numbers: &OperandFields, has_imm: bool) -> Spelling
-    requires { prefix.now.vvvv < 16 }
+    requires vvvv { prefix.now.vvvv < 16 }
+    requires direct { IsDirect numbers.now.e }
     ensures { result ≡ prefix_bytes (shortest_form (fields_of prefix.now)) (fields_of prefix.now)
-        ++ byte ∷ (place_bytes numbers.now.reg (place_for numbers.now.register) ++ imm_bytes has_imm numbers.now.imm) }
+        ++ byte ∷ (place_bytes numbers.now.reg (place_for numbers.now.e) ++ imm_bytes has_imm numbers.now.imm) }
 {
     let mut spelling = prefix_spelling(prefix);
     spelling.push(byte);
-    if let Some(register) = numbers.register {
-        spelling.push(0xC0 + 8 * numbers.reg + register % 8);
+    match numbers.e {
+        OperandE::Absent => {}
+        OperandE::Register(register) => spelling.push(0xC0 + 8 * numbers.reg + register % 8),
+        OperandE::Memory(_) => unreachable!(),
     }
     if has_imm {
         spelling.push(numbers.imm);

@@ -1,3 +1,6 @@
 pub mod Sound
 pub mod Choices
 pub mod Choosing
+pub mod Fit
+mod Mapped
+mod MeaningGiven

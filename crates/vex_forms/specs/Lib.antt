@@ -5,3 +5,4 @@ pub mod Layout
 pub mod Laws
 pub mod Fields
 pub mod FormWalk
+pub mod Operands

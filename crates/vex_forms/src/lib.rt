@@ -2,12 +2,19 @@
 #![tactic(auto)]
 
 mod choice;
+mod instruction;
 pub mod laws;
+mod operand_e;
+mod operand_fields;
+mod operands;
 mod row_layout;
 mod sizes;
 mod slot;
 mod slots;
 
+pub use instruction::instruction_of;
+pub use operand_e::OperandE;
+pub use operand_fields::OperandFields;
 pub use row_layout::{RowLayout, layout};
 pub use slot::{Slot, VvvvRule};
 
