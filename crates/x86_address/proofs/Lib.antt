@@ -6,6 +6,6 @@ pub mod Shortest
 pub mod Examples
 pub mod Spelling
 pub mod Encodable
-pub mod Giving
+pub mod Naming
 pub mod Completing
 pub mod Taken

@@ -1,53 +1,31 @@
 -- What the bytes that a reader gave for an address spell, and what those that it gave before it refused one lack.
-use Rattle.std.proofs.Common.{◌≡◌, ◌∙◌, ap, sym, subst, ne_eqb, arith, refl, ℕ, Bool, true, false, ◌/◌, ◌%◌, ◌<◌, ◌==◌, ◌&&◌, if◌then◌else◌, List, [], ◌∷◌, ◌++◌, length, Result, Ok, Err, IsErr, OnErr, OnOk, Some, append-nil}
+use Rattle.std.proofs.Common.{◌≡◌, ◌∙◌, ap, ap₂, sym, subst, ne_eqb, arith, refl, ℕ, Bool, true, false, ◌/◌, ◌%◌, ◌<◌, ◌==◌, ◌&&◌, if◌then◌else◌, List, [], ◌∷◌, ◌++◌, length, Result, Ok, Err, IsErr, OnErr, append-nil}
+use Rattle.std.specs.Prelude.{IfOk, IfErr}
 use Rattle.std.proofs.lemmas.List.Elements.{recursion_from_All}
-use Rattle.std.specs.Io.KnownBytes.{prepend_known}
 use Rattle.x86_operand.specs.Kind.{Kind, InMemory}
 use Rattle.x86_operand.specs.declared.error.DecodeError.{DecodeError}
 use Rattle.x86_operand.specs.declared.error.DecodeError.TheVariants.{ExhaustedInput}
 use Rattle.x86_operand.specs.declared.address.Address.{Address}
 use Rattle.x86_operand.specs.declared.register.RegisterBank.TheVariants.{Q}
-use Rattle.x86_reader.specs.Reader.{ReaderState, IsByte, Takes, Stops, CountsRefusal}
-use Rattle.x86_reader.specs.SliceReader.{SliceReader, slice_state}
-use Rattle.x86_reader.proofs.Taking.{Stops-slice}
+use Rattle.x86_reader.specs.Reader.{ReaderState, IsByte, Takes, Stops, Passes}
 use Rattle.x86_address.specs.Bytes.{IsBytes, Short, Long}
 use Rattle.x86_address.specs.Place.{Place, kind_of, tail_of, PlainAddress, Target, NoTarget, Number, At, kind_of_target, target, SpellsTarget}
-use Rattle.x86_address.specs.Shortest.{plain, in_banks}
+use Rattle.x86_address.specs.Shortest.{in_banks}
 use Rattle.x86_address.specs.Reading.{Reading, take_byte, take_doubleword, take_displacement, take_baseless, take_scaled, take_sib, take_place}
-use Rattle.x86_address.specs.Reads.{Reads, ReadsSome, FallsShort, ExactOverSlice, NamesAddress, SpelledBy, CutShort}
-use Rattle.x86_address.proofs.Fields.{high_field_below, low_field_below}
-use Rattle.x86_address.proofs.PlaceBytes.{IsBytes-append, has_modrm, place_bytes_split, place_bytes_none, tail_length}
-use Rattle.x86_address.proofs.Reading.{take_place-written, modrm-written, modrm-again}
-use Rattle.x86_address.proofs.Shortest.{kind_of_target-target, plain-in_banks}
+use Rattle.x86_address.specs.Most.Laws.{most_place}
+use Rattle.x86_address.specs.Follows.{Same, Follows}
+use Rattle.x86_address.specs.Follows.Laws.{takes_all, fails_at_end, most_taken}
+use Rattle.x86_address.specs.Reads.{NamesAddress, SpelledBy, CutShort}
+use Rattle.x86_address.proofs.Fields.{low_field_below}
+use Rattle.x86_address.proofs.PlaceBytes.{IsBytes-append, has_modrm, place_bytes_split, place_bytes_none}
+use Rattle.x86_address.proofs.Reader.{same_read}
+use Rattle.x86_address.proofs.Reading.{take_byte-fails, take_place-fails, modrm-written, modrm-again}
+use Rattle.x86_address.proofs.Shortest.{kind_of_target-target}
 use Rattle.x86_address.proofs.Completing.{fails_before, completable_place}
 
--- the bytes that a `U8Reader` gave stood first in what was left
-stood_first : {old new : ReaderState} (before after : SliceReader) {bytes : List ℕ} → Takes old new bytes → old ≡ slice_state before → new ≡ slice_state after → before.left ≡ bytes ++ after.left
-stood_first {old} {new} before after {bytes} takes is_old is_new =
-    let left : Some before.left ≡ prepend_known bytes (Some after.left) = ap (λ s. s.left) (sym is_old) ∙ takes.passes.left ∙ ap (λ s. prepend_known bytes s.left) is_new in
-    cc
-
--- over a `U8Reader` a step succeeds on what was left where the call does
-exact_ok : {A B : Type 0} {step : List ℕ → Reading A} {old new : ReaderState} {before after : SliceReader} (value : A) (answer : B) → Reads step old new value → old ≡ slice_state before → new ≡ slice_state after → ExactOverSlice step (Ok answer) before after
-exact_ok {step = step} {before = before} {after = after} value answer reads is_old is_new =
-    let ok : step before.left ≡ Ok (value, after.left) = ap step (stood_first before after reads.takes is_old is_new) ∙ reads.answers after.left in
-    record { fails = rw ok (λ h. cc, λ h. cc); empty = λ h. cc }
-
--- and it fails where the call does
-exact_err : {A B : Type 0} {step : List ℕ → Reading A} {old new : ReaderState} {before after : SliceReader} (e : DecodeError) → FallsShort step old new → old ≡ slice_state before → new ≡ slice_state after → ExactOverSlice {B = B} step (Err e) before after
-exact_err {step = step} {old = old} {before = before} {after = after} e short is_old is_new =
-    let ends = Stops-slice before after short.bytes (subst (λ s. Stops s (slice_state after) short.bytes) is_old (subst (λ s. Stops old s short.bytes) is_new short.stops)) in
-    let err : step before.left ≡ Err (ExhaustedInput, []) = ap step ends.0 ∙ short.wants in
-    record { fails = rw err (λ h. refl, λ h. refl); empty = λ h. ends.1 }
-
--- so the call is exact
-pub exact : {A B : Type 0} {step : List ℕ → Reading A} {old new : ReaderState} (result : Result B DecodeError) → OnOk result ((value : A) × Reads step old new value) → OnErr result (FallsShort step old new) → (before after : SliceReader) → old ≡ slice_state before → new ≡ slice_state after → ExactOverSlice step result before after
-exact (Ok answer) ok err before after is_old is_new = exact_ok ok.0 answer ok.1 is_old is_new
-exact (Err e) ok err before after is_old is_new = exact_err e err is_old is_new
-
 -- bytes that were taken are bytes
-IsBytes-taken : {old new : ReaderState} {bytes : List ℕ} → Takes old new bytes → IsBytes bytes
-IsBytes-taken {bytes = bytes} takes = recursion_from_All IsByte bytes takes.passes.each
+IsBytes-taken : {old new : ReaderState} {bytes : List ℕ} → Passes old new bytes → IsBytes bytes
+IsBytes-taken {bytes = bytes} passes = recursion_from_All IsByte bytes passes.each
 
 -- a place that is read after a ModRM byte of memory is in memory
 kind_in_memory : (modrm : ℕ) (bytes : List ℕ) (place : Place) → modrm < 192 → IsBytes bytes → take_place (modrm / 64) (modrm % 8) bytes ≡ Ok (place, []) → kind_of place ≡ InMemory
@@ -68,63 +46,58 @@ spells_place modrm bytes place memory are read names =
     }
 
 -- what was read after ModRM spells the address
-pub spelled_by : {modrm : ℕ} {x b : Bool} {address : Address} {old new : ReaderState} → modrm < 192 → ReadsSome (take_place (modrm / 64) (modrm % 8)) (λ place. NamesAddress place x b address) old new → SpelledBy modrm x b address old new
-spelled_by {modrm} {x} {b} {address} memory read =
-    let reads = read.reads in
-    let bytes = reads.bytes in
-    let are = IsBytes-taken reads.takes in
-    let again = ap (take_place (modrm / 64) (modrm % 8)) (sym (append-nil bytes)) ∙ reads.answers [] in
-    let stood = take_place-written (modrm / 64) (modrm % 8) bytes (high_field_below modrm (omega arith)) (low_field_below modrm) are read.value [] again in
+spelled_by : {modrm : ℕ} {x b : Bool} {address : Address} {old new : ReaderState} → modrm < 192 → Follows (take_place (modrm / 64) (modrm % 8)) (NamesAddress x b) old new (Ok address) → SpelledBy modrm x b address old new
+spelled_by {modrm} {x} {b} {address} memory f =
+    let place = f.answers.0 in
+    let named = f.answers.1 in
+    let are = IsBytes-taken f.passes in
+    let again = takes_all address f in
     record {
-      bytes = bytes;
-      takes = reads.takes;
-      most = rw (stood.written, append-nil) (tail_length read.value);
+      bytes = f.bytes;
+      takes = record { passes = f.passes; uncounted = f.counts };
+      most = most_taken 5 (most_place (modrm / 64) (modrm % 8)) (Ok address) f;
       spells = record {
-        plain_address = read.is.plain_address;
-        spells = spells_place modrm bytes read.value memory are again read.is.names;
-        banks = read.is.banks;
+        plain_address = named.plain_address;
+        spells = spells_place modrm f.bytes place memory are again named.names;
+        banks = named.banks;
       };
     }
 
--- an address that is named has its base in bank Q or RIP, and its index in bank Q
-pub banks_of : {place : Place} {x b : Bool} {address : Address} → NamesAddress place x b address → address ≡ in_banks Q (plain address)
-banks_of named = named.banks ∙ ap (in_banks Q) (sym (plain-in_banks Q named.plain_address)) ∙ ap (λ a. in_banks Q (plain a)) (sym named.banks)
-
 -- ---- too few bytes
 
--- a step that takes at most so many bytes fails only on fewer
-abbrev TakesAtMost : {A : Type 0} → ℕ → (List ℕ → Reading A) → Type 0
-TakesAtMost n step = (bytes : List ℕ) → IsErr (step bytes) → length bytes < n
+-- the step fails only on fewer bytes than these
+abbrev FailsBelow : {A : Type 0} → ℕ → (List ℕ → Reading A) → Type 0
+FailsBelow n step = (bytes : List ℕ) → IsErr (step bytes) → length bytes < n
 
-most_byte : TakesAtMost 1 take_byte
-most_byte [] h = omega arith
-most_byte (byte ∷ bytes) h = cc
+below_byte : FailsBelow 1 take_byte
+below_byte [] h = omega arith
+below_byte (byte ∷ bytes) h = cc
 
-most_doubleword : TakesAtMost 4 take_doubleword
-most_doubleword [] h = omega arith
-most_doubleword (a ∷ []) h = omega arith
-most_doubleword (a ∷ b ∷ []) h = omega arith
-most_doubleword (a ∷ b ∷ c ∷ []) h = omega arith
-most_doubleword (a ∷ b ∷ c ∷ d ∷ bytes) h = cc
+below_doubleword : FailsBelow 4 take_doubleword
+below_doubleword [] h = omega arith
+below_doubleword (a ∷ []) h = omega arith
+below_doubleword (a ∷ b ∷ []) h = omega arith
+below_doubleword (a ∷ b ∷ c ∷ []) h = omega arith
+below_doubleword (a ∷ b ∷ c ∷ d ∷ bytes) h = cc
 
-most_if : {A : Type 0} {n : ℕ} (test : Bool) (one other : List ℕ → Reading A) → TakesAtMost n one → TakesAtMost n other → TakesAtMost n (λ bytes. if test then one bytes else other bytes)
-most_if true one other p q = p
-most_if false one other p q = q
+below_if : {A : Type 0} {n : ℕ} (test : Bool) (one other : List ℕ → Reading A) → FailsBelow n one → FailsBelow n other → FailsBelow n (λ bytes. if test then one bytes else other bytes)
+below_if true one other p q = p
+below_if false one other p q = q
 
-most_displacement : (mode : ℕ) → TakesAtMost 4 (take_displacement mode)
-most_displacement mode =
-    most_if (mode == 0) _ _ (λ bytes h. cc) (most_if (mode == 1) _ _ (λ bytes h. omega (arith, most_byte bytes (fails_before Short (take_byte bytes) h))) (λ bytes h. most_doubleword bytes (fails_before Long (take_doubleword bytes) h)))
+below_displacement : (mode : ℕ) → FailsBelow 4 (take_displacement mode)
+below_displacement mode =
+    below_if (mode == 0) _ _ (λ bytes h. cc) (below_if (mode == 1) _ _ (λ bytes h. omega (arith, below_byte bytes (fails_before Short (take_byte bytes) h))) (λ bytes h. below_doubleword bytes (fails_before Long (take_doubleword bytes) h)))
 
-most_sib : (mode : ℕ) → TakesAtMost 5 (take_sib mode)
-most_sib mode [] h = omega arith
-most_sib mode (sib ∷ bytes) h =
-    let after : length bytes < 4 = most_if (mode == 0 && sib % 8 == 5) (take_baseless sib) (take_scaled mode sib) (λ bytes h. most_doubleword bytes (fails_before _ (take_doubleword bytes) h)) (λ bytes h. most_displacement mode bytes (fails_before _ (take_displacement mode bytes) h)) bytes h in
+below_sib : (mode : ℕ) → FailsBelow 5 (take_sib mode)
+below_sib mode [] h = omega arith
+below_sib mode (sib ∷ bytes) h =
+    let after : length bytes < 4 = below_if (mode == 0 && sib % 8 == 5) (take_baseless sib) (take_scaled mode sib) (λ bytes h. below_doubleword bytes (fails_before _ (take_doubleword bytes) h)) (λ bytes h. below_displacement mode bytes (fails_before _ (take_displacement mode bytes) h)) bytes h in
     omega arith
 
 -- what follows ModRM is at most five bytes
-most_place : (mode rm : ℕ) → TakesAtMost 5 (take_place mode rm)
-most_place mode rm =
-    most_if (mode == 3) _ _ (λ bytes h. cc) (most_if (rm == 4) _ _ (most_sib mode) (most_if (mode == 0 && rm == 5) _ _ (λ bytes h. omega (arith, most_doubleword bytes (fails_before _ (take_doubleword bytes) h))) (λ bytes h. omega (arith, most_displacement mode bytes (fails_before _ (take_displacement mode bytes) h)))))
+below_place : (mode rm : ℕ) → FailsBelow 5 (take_place mode rm)
+below_place mode rm =
+    below_if (mode == 3) _ _ (λ bytes h. cc) (below_if (rm == 4) _ _ (below_sib mode) (below_if (mode == 0 && rm == 5) _ _ (λ bytes h. omega (arith, below_doubleword bytes (fails_before _ (take_doubleword bytes) h))) (λ bytes h. omega (arith, below_displacement mode bytes (fails_before _ (take_displacement mode bytes) h)))))
 
 -- lists that are one have one head and one tail
 same_parts : (a b : ℕ) (rest others : List ℕ) → a ∷ rest ≡ b ∷ others → (a ≡ b) × (rest ≡ others)
@@ -144,33 +117,78 @@ address_in_memory (Number n) h = cc
 address_in_memory (At a) h = (a, refl)
 
 -- where the reader stopped, some address begins so, and more bytes are wanted in whatever spelling begins so
-pub cut_short : {modrm : ℕ} {x b : Bool} {old new : ReaderState} → modrm < 192 → FallsShort (take_place (modrm / 64) (modrm % 8)) old new → CutShort modrm x b old new
-cut_short {modrm} {x} {b} memory short =
+cut_short : {modrm : ℕ} {x b : Bool} {old new : ReaderState} {bytes : List ℕ} → modrm < 192 → Stops old new bytes → take_place (modrm / 64) (modrm % 8) bytes ≡ Err (ExhaustedInput, []) → CutShort modrm x b old new
+cut_short {modrm} {x} {b} {bytes = bytes} memory stops lacking =
     let step = take_place (modrm / 64) (modrm % 8) in
-    let failed : IsErr (step short.bytes) = rw short.wants refl in
-    let most = most_place (modrm / 64) (modrm % 8) short.bytes failed in
-    let more = completable_place (modrm / 64) (modrm % 8) short.bytes failed in
-    let are = IsBytes-append short.bytes more.missing (recursion_from_All IsByte short.bytes short.stops.passes.each) more.are in
-    let named = address_in_memory (target more.value x b) (kind_of_target-target more.value x b ∙ kind_in_memory modrm (short.bytes ++ more.missing) more.value memory are more.answers) in
+    let failed : IsErr (step bytes) = rw lacking refl in
+    let most = below_place (modrm / 64) (modrm % 8) bytes failed in
+    let more = completable_place (modrm / 64) (modrm % 8) bytes failed in
+    let are = IsBytes-append bytes more.missing (IsBytes-taken stops.passes) more.are in
+    let named = address_in_memory (target more.value x b) (kind_of_target-target more.value x b ∙ kind_in_memory modrm (bytes ++ more.missing) more.value memory are more.answers) in
     record {
-      bytes = short.bytes;
-      stops = short.stops;
+      bytes = bytes;
+      stops = stops;
       most = omega arith;
       fewer = λ rest kind reg x b e s none.
-          let whole : step (short.bytes ++ rest) ≡ Ok (s.place, []) = read_whole s in
-          let same : short.bytes ++ rest ≡ short.bytes = ap (λ rest. short.bytes ++ rest) none ∙ append-nil short.bytes in
-          let lacking = short.wants in
+          let whole : step (bytes ++ rest) ≡ Ok (s.place, []) = read_whole s in
+          let same : bytes ++ rest ≡ bytes = ap (λ rest. bytes ++ rest) none ∙ append-nil bytes in
           let read = sym (ap step same) ∙ whole in
           cc;
       missing = more.missing;
       address = in_banks Q named.0;
       spells = record {
         plain_address = named.0;
-        spells = spells_place modrm (short.bytes ++ more.missing) more.value memory are more.answers named.1;
+        spells = spells_place modrm (bytes ++ more.missing) more.value memory are more.answers named.1;
         banks = refl;
       };
     }
 
--- a step that lacks a byte has counted a refusal
-pub counts : {A : Type 0} {step : List ℕ → Reading A} {old new : ReaderState} → FallsShort step old new → CountsRefusal old new
-counts short = short.stops.counted
+-- an error of the step is that a byte was refused
+only_exhausted : (modrm : ℕ) {x b : Bool} {old new : ReaderState} (error : DecodeError) → Follows (take_place (modrm / 64) (modrm % 8)) (NamesAddress x b) old new (Err error) → error ≡ ExhaustedInput
+only_exhausted modrm error f = ap (λ e. e.0) (take_place-fails (modrm / 64) (modrm % 8) f.bytes (error, []) (fails_at_end error f))
+
+-- ---- what a call says to its caller
+
+module _ (modrm : ℕ) {x b : Bool} {old new : ReaderState} where
+  pub if_spelled : (result : Result Address DecodeError) → modrm < 192 → Follows (take_place (modrm / 64) (modrm % 8)) (NamesAddress x b) old new result → IfOk result (λ address. SpelledBy modrm x b address old new)
+  if_spelled (Ok address) memory f = spelled_by memory f
+  if_spelled (Err error) memory f = tt
+
+  pub if_exhausted : (result : Result Address DecodeError) → Follows (take_place (modrm / 64) (modrm % 8)) (NamesAddress x b) old new result → IfErr result (λ error. error ≡ ExhaustedInput)
+  if_exhausted (Ok address) f = tt
+  if_exhausted (Err error) f = only_exhausted modrm error f
+
+  pub on_cut_short : (result : Result Address DecodeError) → modrm < 192 → Follows (take_place (modrm / 64) (modrm % 8)) (NamesAddress x b) old new result → OnErr result (CutShort modrm x b old new)
+  on_cut_short (Ok address) memory f = tt
+  on_cut_short (Err error) memory f =
+      let is = only_exhausted modrm error f in
+      let stops : Stops old new f.bytes = record { passes = f.passes; counted = f.counts.counted is } in
+      cut_short memory stops (fails_at_end error f ∙ ap (λ e. Err (e, [])) is)
+
+-- a byte, and no other error than that it was refused
+module _ {old new : ReaderState} where
+  pub if_taken : (result : Result ℕ DecodeError) → Follows take_byte Same old new result → IfOk result (λ byte. Takes old new (byte ∷ []))
+  if_taken (Ok byte) f = byte_taken f.bytes f.passes f.counts (takes_all byte f ∙ ap (λ n. Ok (n, [])) (sym f.answers.1))
+    where
+      byte_taken : {byte : ℕ} (bytes : List ℕ) → Passes old new bytes → new.refusals ≡ old.refusals → take_byte bytes ≡ Ok (byte, []) → Takes old new (byte ∷ [])
+      byte_taken [] passes same e = cc
+      byte_taken {byte} (n ∷ rest) passes same e =
+          let read = same_read e in
+          let one : n ∷ rest ≡ byte ∷ [] = ap₂ ◌∷◌ (ap (λ r. r.0) read) (ap (λ r. r.1) read) in
+          record { passes = subst (Passes old new) one passes; uncounted = same }
+  if_taken (Err error) f = tt
+
+  pub if_byte_refused : (result : Result ℕ DecodeError) → Follows take_byte Same old new result → IfErr result (λ error. error ≡ ExhaustedInput)
+  if_byte_refused (Ok byte) f = tt
+  if_byte_refused (Err error) f = ap (λ e. e.0) (take_byte-fails f.bytes (error, []) (fails_at_end error f))
+
+  pub on_byte_refused : (result : Result ℕ DecodeError) → Follows take_byte Same old new result → OnErr result (Stops old new [])
+  on_byte_refused (Ok byte) f = tt
+  on_byte_refused (Err error) f =
+      let e = take_byte-fails f.bytes (error, []) (fails_at_end error f) in
+      let none : f.bytes ≡ [] = no_byte f.bytes (fails_at_end error f) in
+      record { passes = subst (Passes old new) none f.passes; counted = f.counts.counted (ap (λ e. e.0) e) }
+    where
+      no_byte : {error : DecodeError × List ℕ} (bytes : List ℕ) → take_byte bytes ≡ Err error → bytes ≡ []
+      no_byte [] e = refl
+      no_byte (byte ∷ bytes) e = cc

@@ -2,6 +2,8 @@ pub mod Bytes
 pub mod Place
 pub mod Shortest
 pub mod Reading
+pub mod Most
+pub mod Follows
 pub mod Laws
 pub mod Spells
 pub mod Written

@@ -1,14 +1,14 @@
 //! Reading ModRM, an address and an immediate byte.
 
-ghost use Rattle.std.specs.Prelude.{◌≡◌, ◌<◌, ◌+◌, ◌*◌, ◌/◌, ◌%◌, ℕ, List, [], ◌∷◌, IfOk, IfErr, OnErr};
+ghost use Rattle.std.specs.Prelude.{◌≡◌, ◌<◌, ◌+◌, ◌*◌, ◌/◌, ◌%◌, [], ◌∷◌, IfOk, IfErr, OnErr};
 ghost use Rattle.std.specs.Int.{cast_signed, w32};
-ghost use Rattle.x86_reader.specs.Reader.{Takes, Stops, ChangesOnlyCount, CountsRefusal};
-ghost use Rattle.x86_reader.specs.SliceReader.{SliceReader, slice_state};
+ghost use Rattle.x86_reader.specs.Reader.{Takes, Stops};
 ghost use Rattle.x86_address.specs.Bytes.{bit, displacement_value};
 ghost use Rattle.x86_address.specs.Place.{index_of};
-ghost use Rattle.x86_address.specs.Shortest.{in_banks, plain, index_register};
+ghost use Rattle.x86_address.specs.Shortest.{index_register};
 ghost use Rattle.x86_address.specs.Reading.{take_byte, take_doubleword, take_displacement, take_sib, take_place};
-ghost use Rattle.x86_address.specs.Reads.{Reads, ReadsSome, FallsShort, ExactOverSlice, NamesAddress, SpelledBy, CutShort};
+ghost use Rattle.x86_address.specs.Follows.{Same, Follows, OverSlice};
+ghost use Rattle.x86_address.specs.Reads.{NamesAddress, SpelledBy, CutShort};
 
 use x86_operand::{Address, DecodeError, Index, RegSpec, RegisterBank};
 use x86_reader::Reader;
@@ -19,15 +19,11 @@ use x86_reader::Reader;
 /// the reader's count of refusals rose in this call or stands at its last value; over a `U8Reader`, exactly where no
 /// byte is left. No other error comes.
 pub fn read_modrm<R: Reader>(words: &mut R) -> Result<u8, DecodeError>
+    ensures follows { Follows take_byte Same (R.state words.old) (R.state words.new) result }
     ensures taken { IfOk result (λ byte. Takes (R.state words.old) (R.state words.new) (byte ∷ [])) }
     ensures error { IfErr result (λ error. error ≡ DecodeError.ExhaustedInput) }
-    ensures unchanged { OnErr result (ChangesOnlyCount (R.state words.old) (R.state words.new)) }
-    ensures counted { OnErr result (CountsRefusal (R.state words.old) (R.state words.new)) }
-    ensures read { IfOk result (Reads take_byte (R.state words.old) (R.state words.new)) }
-    ensures short { OnErr result (FallsShort take_byte (R.state words.old) (R.state words.new)) }
-    ensures slice { (before after : SliceReader)
-        → R.state words.old ≡ slice_state before → R.state words.new ≡ slice_state after
-        → ExactOverSlice take_byte result before after }
+    ensures refused { OnErr result (Stops (R.state words.old) (R.state words.new) []) }
+    ensures slice { OverSlice take_byte Same (R.state words.old) (R.state words.new) result }
 {
     read_byte(words)
 }
@@ -51,25 +47,18 @@ pub fn read_address<R: Reader>(
 ) -> Result<Address, DecodeError>
     requires { modrm < 0xC0 }
 
+    ensures follows { Follows (take_place (modrm / 64) (modrm % 8)) (NamesAddress x b)
+        (R.state words.old) (R.state words.new) result }
+
     // ModRM and the bytes taken, at most 5, spell the address.
     ensures spells { IfOk result (λ address.
         SpelledBy modrm x b address (R.state words.old) (R.state words.new)) }
-    ensures banks { IfOk result (λ address. address ≡ in_banks RegisterBank.Q (plain address)) }
     ensures error { IfErr result (λ error. error ≡ DecodeError.ExhaustedInput) }
-    ensures counted { OnErr result (CountsRefusal (R.state words.old) (R.state words.new)) }
 
     // After an error the bytes taken, at most 4, begin those of an address, and are fewer than the case wants.
     ensures cut { OnErr result (CutShort modrm x b (R.state words.old) (R.state words.new)) }
-    ensures slice { (before after : SliceReader)
-        → R.state words.old ≡ slice_state before → R.state words.new ≡ slice_state after
-        → ExactOverSlice (take_place (modrm / 64) (modrm % 8)) result before after }
-
-    // The same as one step of a longer reading.
-    ensures read { IfOk result (λ address.
-        ReadsSome (take_place (modrm / 64) (modrm % 8)) (λ place. NamesAddress place x b address)
-        (R.state words.old) (R.state words.new)) }
-    ensures short { OnErr result (FallsShort (take_place (modrm / 64) (modrm % 8))
-        (R.state words.old) (R.state words.new)) }
+    ensures slice { OverSlice (take_place (modrm / 64) (modrm % 8)) (NamesAddress x b)
+        (R.state words.old) (R.state words.new) result }
 {
     read_by_fields(words, modrm / 64, modrm % 8, x, b)
 }
@@ -80,41 +69,27 @@ pub fn read_address<R: Reader>(
 /// the reader's count of refusals rose in this call or stands at its last value; over a `U8Reader`, exactly where no
 /// byte is left. No other error comes.
 pub fn read_imm<R: Reader>(words: &mut R) -> Result<u8, DecodeError>
+    ensures follows { Follows take_byte Same (R.state words.old) (R.state words.new) result }
     ensures taken { IfOk result (λ byte. Takes (R.state words.old) (R.state words.new) (byte ∷ [])) }
     ensures error { IfErr result (λ error. error ≡ DecodeError.ExhaustedInput) }
-    ensures unchanged { OnErr result (ChangesOnlyCount (R.state words.old) (R.state words.new)) }
-    ensures counted { OnErr result (CountsRefusal (R.state words.old) (R.state words.new)) }
-    ensures read { IfOk result (Reads take_byte (R.state words.old) (R.state words.new)) }
-    ensures short { OnErr result (FallsShort take_byte (R.state words.old) (R.state words.new)) }
-    ensures slice { (before after : SliceReader)
-        → R.state words.old ≡ slice_state before → R.state words.new ≡ slice_state after
-        → ExactOverSlice take_byte result before after }
+    ensures refused { OnErr result (Stops (R.state words.old) (R.state words.new) []) }
+    ensures slice { OverSlice take_byte Same (R.state words.old) (R.state words.new) result }
 {
     read_byte(words)
 }
 
 // One byte.
-#[tactic(auto, using(crate::proofs::Giving::reads_byte, crate::proofs::Giving::lacks_byte))]
+#[tactic(auto, using(crate::specs::Follows::Laws::follows_byte, crate::specs::Follows::Laws::lacks_byte))]
 fn read_byte<R: Reader>(words: &mut R) -> Result<u8, DecodeError>
-    ensures taken { IfOk result (λ byte. Takes (R.state words.old) (R.state words.new) (byte ∷ [])) }
-    ensures error { IfErr result (λ error. error ≡ DecodeError.ExhaustedInput) }
-    ensures unchanged { OnErr result (ChangesOnlyCount (R.state words.old) (R.state words.new)) }
-    ensures counted { OnErr result (CountsRefusal (R.state words.old) (R.state words.new)) }
-    ensures read { IfOk result (Reads take_byte (R.state words.old) (R.state words.new)) }
-    ensures short { OnErr result (FallsShort take_byte (R.state words.old) (R.state words.new)) }
-    ensures slice { (before after : SliceReader)
-        → R.state words.old ≡ slice_state before → R.state words.new ≡ slice_state after
-        → ExactOverSlice take_byte result before after }
+    ensures { Follows take_byte Same (R.state words.old) (R.state words.new) result }
 {
     words.next().map_err(|_| DecodeError::ExhaustedInput)
 }
 
 // A displacement of four bytes, the lowest first.
 fn read_doubleword<R: Reader>(words: &mut R) -> Result<i32, DecodeError>
-    ensures read { IfOk result (λ disp. ReadsSome take_doubleword (λ n. disp ≡ cast_signed w32 n)
-        (R.state words.old) (R.state words.new)) }
-    ensures error { IfErr result (λ error. error ≡ DecodeError.ExhaustedInput) }
-    ensures short { OnErr result (FallsShort take_doubleword (R.state words.old) (R.state words.new)) }
+    ensures { Follows take_doubleword (λ n disp. disp ≡ cast_signed w32 n)
+        (R.state words.old) (R.state words.new) result }
 {
     let lowest = read_byte(words)?;
     let second = read_byte(words)?;
@@ -126,10 +101,8 @@ fn read_doubleword<R: Reader>(words: &mut R) -> Result<i32, DecodeError>
 // A displacement as long as the field mod says: none, a byte or four bytes for mod 0, 1 and 2.
 fn read_displacement<R: Reader>(words: &mut R, mode: u8) -> Result<i32, DecodeError>
     requires { mode < 3 }
-    ensures read { IfOk result (λ disp. ReadsSome (take_displacement mode) (λ d. disp ≡ displacement_value d)
-        (R.state words.old) (R.state words.new)) }
-    ensures error { IfErr result (λ error. error ≡ DecodeError.ExhaustedInput) }
-    ensures short { OnErr result (FallsShort (take_displacement mode) (R.state words.old) (R.state words.new)) }
+    ensures { Follows (take_displacement mode) (λ d disp. disp ≡ displacement_value d)
+        (R.state words.old) (R.state words.new) result }
 {
     match mode {
         0 => Ok(0),
@@ -170,10 +143,7 @@ fn index_of(sib: u8, x: bool) -> Option<Index>
 // The address that SIB begins, with mod 0, 1 or 2.
 fn read_by_sib<R: Reader>(words: &mut R, mode: u8, x: bool, b: bool) -> Result<Address, DecodeError>
     requires { mode < 3 }
-    ensures read { IfOk result (λ address. ReadsSome (take_sib mode) (λ place. NamesAddress place x b address)
-        (R.state words.old) (R.state words.new)) }
-    ensures error { IfErr result (λ error. error ≡ DecodeError.ExhaustedInput) }
-    ensures short { OnErr result (FallsShort (take_sib mode) (R.state words.old) (R.state words.new)) }
+    ensures { Follows (take_sib mode) (NamesAddress x b) (R.state words.old) (R.state words.new) result }
 {
     let sib = read_byte(words)?;
     let index = index_of(sib, x);
@@ -200,10 +170,7 @@ fn read_by_fields<R: Reader>(
 ) -> Result<Address, DecodeError>
     requires memory { mode < 3 }
     requires field { rm < 8 }
-    ensures read { IfOk result (λ address. ReadsSome (take_place mode rm)
-        (λ place. NamesAddress place x b address) (R.state words.old) (R.state words.new)) }
-    ensures error { IfErr result (λ error. error ≡ DecodeError.ExhaustedInput) }
-    ensures short { OnErr result (FallsShort (take_place mode rm) (R.state words.old) (R.state words.new)) }
+    ensures { Follows (take_place mode rm) (NamesAddress x b) (R.state words.old) (R.state words.new) result }
 {
     if rm == 4 {
         return read_by_sib(words, mode, x, b);

@@ -1,17 +1,14 @@
-use Rattle.std.proofs.Common.{◌≢◌, arith}
+use Rattle.std.proofs.Common.{◌≢◌, arith, ne_eqb}
 use Rattle.std.proofs.lemmas.Int.{ints}
-use Rattle.x86_address.proofs.Giving.{reads_short, reads_long, if_ok_wider}
+use Rattle.x86_address.specs.Bytes.{Long}
+use Rattle.x86_address.specs.Follows.Laws.{follows_seen, follows_map, follows_ok, follows_false}
 use Rattle.x86_address.proofs.decode.read_displacement.Goals as goal
 
-pub returns-in_ok-read_byte-in-1-clause-read : goal.returns-in_ok-read_byte-in-1-clause-read
-returns-in_ok-read_byte-in-1-clause-read g c = record {
-  value = _;
-  reads = reads_short c.in-1.is c.in_ok-read_byte-in-1.ensures.read;
-  is = omega (arith, ints);
-}
+pub returns-in_ok-read_byte-in-1 : goal.returns-in_ok-read_byte-in-1
+returns-in_ok-read_byte-in-1 g c = rw c.in-1.is (follows_seen _ _ c.in_ok-read_byte-in-1.ensures (follows_ok (omega (arith, ints))))
 
-pub returns-in_default-clause-read : goal.returns-in_default-clause-read
-returns-in_default-clause-read g c =
+pub returns-in_default : goal.returns-in_default
+returns-in_default g c =
     let some : c.args.mode ≢ 0 = omega arith in
     let more : c.args.mode ≢ 1 = omega arith in
-    if_ok_wider _ _ c.read_doubleword.result (λ disp doubleword. record { value = _; reads = reads_long some more doubleword.reads; is = doubleword.is }) c.read_doubleword.ensures.read
+    follows_false _ _ _ (ne_eqb c.args.mode 0 some) (follows_false _ _ _ (ne_eqb c.args.mode 1 more) (follows_map Long c.read_doubleword.result (λ n disp so. so) c.read_doubleword.ensures))
