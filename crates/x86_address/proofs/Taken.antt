@@ -10,7 +10,7 @@ use Rattle.x86_operand.specs.declared.register.RegisterBank.TheVariants.{Q}
 use Rattle.x86_reader.specs.Reader.{ReaderState, IsByte, Takes, Stops, Passes}
 use Rattle.x86_address.specs.Bytes.{IsBytes, Short, Long}
 use Rattle.x86_address.specs.Place.{Place, kind_of, tail_of, PlainAddress, Target, NoTarget, Number, At, kind_of_target, target, SpellsTarget}
-use Rattle.x86_address.specs.Shortest.{in_banks}
+use Rattle.x86_address.specs.Shortest.{plain, in_banks}
 use Rattle.x86_address.specs.Reading.{Reading, take_byte, take_doubleword, take_displacement, take_baseless, take_scaled, take_sib, take_place}
 use Rattle.x86_address.specs.Most.Laws.{most_place}
 use Rattle.x86_address.specs.Follows.{Same, Follows}
@@ -57,7 +57,7 @@ spelled_by {modrm} {x} {b} {address} memory f =
       takes = record { passes = f.passes; uncounted = f.counts };
       most = most_taken 5 (most_place (modrm / 64) (modrm % 8)) (Ok address) f;
       spells = record {
-        plain_address = named.plain_address;
+        plain_address = plain address;
         spells = spells_place modrm f.bytes place memory are again named.names;
         banks = named.banks;
       };

@@ -4,15 +4,14 @@ use Rattle.x86_operand.specs.Kind.{Kind}
 use Rattle.x86_operand.specs.declared.address.Address.{Address}
 use Rattle.x86_operand.specs.declared.register.RegisterBank.TheVariants.{Q}
 use Rattle.x86_reader.specs.Reader.{ReaderState, Takes, Stops}
-use Rattle.x86_address.specs.Place.{Place, PlainAddress, Target, At, target, SpellsTarget}
-use Rattle.x86_address.specs.Shortest.{in_banks}
+use Rattle.x86_address.specs.Place.{Place, Target, At, target, SpellsTarget}
+use Rattle.x86_address.specs.Shortest.{plain, in_banks}
 use Rattle.x86_address.specs.Spells.{SpellsAddress}
 
 -- this place names this address, its base in bank Q or RIP and its index in bank Q
 pub record NamesAddress (x b : Bool) (place : Place) (address : Address) : Type 0 where
-  pub plain_address : PlainAddress
-  pub names : target place x b ≡ At plain_address
-  pub banks : address ≡ in_banks Q plain_address
+  pub names : target place x b ≡ At (plain address)
+  pub banks : address ≡ in_banks Q (plain address)
 
 -- ModRM and the bytes that the reader gave, at most five, spell this address
 pub record SpelledBy (modrm : ℕ) (x b : Bool) (address : Address) (old new : ReaderState) : Type 0 where
