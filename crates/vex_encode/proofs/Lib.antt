@@ -12,3 +12,4 @@ pub mod Search
 pub mod Made
 pub mod Recoding
 pub mod Chosen
+pub mod Sweeping

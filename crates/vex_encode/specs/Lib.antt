@@ -10,3 +10,4 @@ pub mod Encode
 pub mod Recode
 pub mod Conditions
 pub mod Laws
+pub mod Sweep

@@ -12,10 +12,14 @@ mod recoder;
 mod slot_kind;
 mod spell;
 mod spelling;
+mod sweeper;
 mod walk;
 
 pub use recoder::recode;
 pub use spelling::Spelling;
+pub use sweeper::{Items, NoMemory, SweepEnd, SweepItem, SweepResult, sweep};
 
+#[cfg(test)]
+mod sweep_tests;
 #[cfg(test)]
 mod tests;

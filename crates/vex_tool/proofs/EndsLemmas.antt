@@ -2,7 +2,9 @@
 use Rattle.std.proofs.Common.{◌≡◌, ℕ, List, [], ◌++◌, length, take, drop, Option, Some, None, Result, Ok, Err, sym, ap, refl, ◌∙◌}
 use Rattle.std.proofs.lemmas.List.{append-nil, append_assoc, nil_from_length, take-append-drop}
 use Rattle.std.specs.Io.KnownBytes.{Appends, Consumes, Keeps}
-use Rattle.vex_tool.specs.Ends.{AppendsFront, RoseOrIsLast, WhereTaken, Writes}
+use Rattle.vex_tool.specs.declared.halt.Halt.{Halt}
+use Rattle.vex_tool.specs.declared.halt.Halt.TheVariants.{WriteFault, NoMemory}
+use Rattle.vex_tool.specs.Ends.{Answers, AppendsFront, RoseOrIsLast, WhereTaken, Writes}
 
 -- ---- what is written
 
@@ -89,6 +91,44 @@ pub Writes-fault : {T E : Type 0} (result : Result T E) (e : E) (old new : Optio
     → result ≡ Err e → AppendsFront old new text → RoseOrIsLast before after → Writes result old new before after text
 Writes-fault result e old new before after text is front cause =
     rw is (record { appends = tt; quiet = tt; front = front; cause = cause })
+
+-- ---- texts written where memory may lack
+
+-- a text was written
+pub Answers-all : (P : List ℕ → Type 0) (result : Result (Unit {0}) Halt) (x : Unit {0}) (old new : Option (List ℕ)) (before after : ℕ) (text : List ℕ)
+    → result ≡ Ok x → Appends old new text → after ≡ before → Answers P result old new before after text
+Answers-all P result x old new before after text is written quiet = rw is (record {
+  appends = written;
+  quiet = quiet;
+  front = λ e. cc;
+  cause = λ e. cc;
+  lacked = λ e. absurd (cc);
+  lacked_quiet = λ e. cc;
+})
+
+-- a text was not written
+pub Answers-fault : (P : List ℕ → Type 0) (old new : Option (List ℕ)) (before after : ℕ) (text : List ℕ)
+    → AppendsFront old new text → RoseOrIsLast before after → Answers P (Err WriteFault) old new before after text
+Answers-fault P old new before after text front cause = record {
+  appends = tt;
+  quiet = tt;
+  front = λ e. front;
+  cause = λ e. cause;
+  lacked = λ e. absurd (cc);
+  lacked_quiet = λ e. cc;
+}
+
+-- what holds where memory lacked may be said otherwise
+pub Answers-as : (P Q : List ℕ → Type 0) (result : Result (Unit {0}) Halt) (old new : Option (List ℕ)) (before after : ℕ) (text : List ℕ)
+    → ((written : List ℕ) → P written → Q written) → Answers P result old new before after text → Answers Q result old new before after text
+Answers-as P Q result old new before after text as_said h = record {
+  appends = h.appends;
+  quiet = h.quiet;
+  front = h.front;
+  cause = h.cause;
+  lacked = λ e. let lacked = h.lacked e in (lacked.0, as_said lacked.0 lacked.1, lacked.2);
+  lacked_quiet = h.lacked_quiet;
+}
 
 -- ---- a text written in several writes
 

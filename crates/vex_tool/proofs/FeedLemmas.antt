@@ -1,9 +1,11 @@
 -- A piece of the input, byte by byte.
-use Rattle.std.proofs.Common.{◌≡◌, ℕ, ◌+◌, ◌<◌, List, [], ◌∷◌, ◌++◌, length, get_or, take, drop, Option, sym, ap, ◌∙◌, refl}
-use Rattle.std.proofs.lemmas.List.{take-append-drop, take_more}
+use Rattle.std.proofs.Common.{◌≡◌, ℕ, ◌+◌, ◌<◌, List, [], ◌∷◌, ◌++◌, length, get_or, take, drop, Option, Err, append_assoc, sym, subst, ap, ◌∙◌, refl}
+use Rattle.std.specs.Prelude.{IsSomeAnd}
+use Rattle.std.proofs.lemmas.List.{append-nil, take-append-drop, take_more}
 use Rattle.std.specs.Io.KnownBytes.{Appends}
-use Rattle.vex_tool.specs.Ends.{AppendsFront}
-use Rattle.vex_tool.specs.LineMachine.{stepped, line_after, ended_at, ended}
+use Rattle.vex_tool.specs.declared.halt.Halt.{Halt}
+use Rattle.vex_tool.specs.Ends.{Answers, AppendsFront}
+use Rattle.vex_tool.specs.LineMachine.{EndedBefore, stepped, line_after, ended_at, ended}
 use Rattle.vex_tool.proofs.EndsLemmas.{Appends-none, Appends-then, AppendsFront-then, AppendsFront-more}
 use Rattle.vex_tool.proofs.LineMachineLemmas.{line_after-append, line_after-one, ended-append, ended-one}
 
@@ -46,6 +48,34 @@ module _ (f : List ℕ → List ℕ) (first : Option (List ℕ)) (sink : Told) w
   Fed-fault front piece rest line now new b fed split written =
       rw (split, ended-append f first (front ++ b ∷ []) rest, ended-more front line b fed.kept)
       (AppendsFront-more sink.text new _ _ (AppendsFront-then sink.text now.text new _ _ fed.written written))
+
+module _ (f : List ℕ → List ℕ) (P : List ℕ → Type 0) (first : Option (List ℕ)) (sink : Told) where
+  -- the text of a byte of the piece wasn't written
+  pub Fed-stopped : (front piece rest : List ℕ) (line : Option (List ℕ)) (now : Told) (new : Option (List ℕ)) (after : ℕ) (b : ℕ) (halt : Halt)
+      → Fed f first sink front line now → piece ≡ (front ++ b ∷ []) ++ rest
+      → Answers (λ written. (written ≡ []) × (b ≡ 10) × IsSomeAnd line P) (Err halt) now.text new now.faults after (ended_at f line b)
+      → Answers (λ written. EndedBefore f P first piece written) (Err halt) sink.text new sink.faults after (ended f first piece)
+  Fed-stopped front piece rest line now new after b halt fed split h = record {
+    appends = tt;
+    quiet = tt;
+    front = λ is. Fed-fault f first sink front piece rest line now new b fed split (h.front is);
+    cause = λ is. rw fed.quiet at (h.cause is);
+    lacked = λ is.
+        let lacked = h.lacked is in
+        let at_end : b ≡ 10 = lacked.1.1 in
+        let nothing : Appends now.text new [] = subst (λ t. Appends now.text new t) lacked.1.0 lacked.2 in (
+          ended f first front,
+          record {
+            front = front;
+            rest = rest;
+            split = split ∙ append_assoc front (b ∷ []) rest ∙ ap (λ e. front ++ e ∷ rest) at_end;
+            line = subst (λ k. IsSomeAnd k P) fed.kept lacked.1.2;
+            gives = refl;
+          },
+          rw append-nil at (Appends-then sink.text now.text new (ended f first front) [] fed.written nothing),
+        );
+    lacked_quiet = λ is. h.lacked_quiet is ∙ fed.quiet;
+  }
 
 -- a list round its element at i
 pub split_at : (xs : List ℕ) (i : ℕ) → i < length xs → xs ≡ (take i xs ++ get_or xs i 0 ∷ []) ++ drop (i + 1) xs

@@ -2,6 +2,7 @@ pub mod EndsLemmas
 pub mod ReportLemmas
 pub mod LineMachineLemmas
 pub mod FeedLemmas
+pub mod SweepLinesLemmas
 pub mod RunLemmas
 pub mod RunClauses
 pub mod Texts

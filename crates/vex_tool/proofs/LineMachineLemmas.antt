@@ -1,5 +1,6 @@
 -- The machine of the line buffer does what the lines of all bytes say, whatever a line gives.
-use Rattle.std.proofs.Common.{◌≡◌, ℕ, ◌<◌, ◌≤◌, Bool, true, false, cond, eqb, leb, List, [], ◌∷◌, ◌++◌, length, Option, Some, None, ◌⊎◌, inl, inr, sym, ap, ◌∙◌, refl, arith}
+use Rattle.std.proofs.Common.{◌≡◌, ℕ, ◌<◌, ◌≤◌, Bool, true, false, cond, eqb, leb, List, [], ◌∷◌, ◌++◌, length, Option, Some, None, ◌⊎◌, inl, inr, sym, ap, ◌∙◌, subst, refl, arith}
+use Rattle.std.specs.Prelude.{IsSomeAnd}
 use Rattle.std.proofs.lemmas.Bool.Decides.{nat_tests}
 use Rattle.std.proofs.lemmas.List.{append-nil, append_assoc, length_push}
 use Rattle.std.proofs.lemmas.Bool.{cases_lt}
@@ -138,6 +139,102 @@ onto-onto_first front b (l ∷ ls) =
     ∙ ap (λ t. t ∷ ls) (sym (append_assoc front (b ∷ []) l))
     ∙ sym (onto-some (front ++ b ∷ []) l ls)
 
+-- ---- the lines that end, and the one that is begun then
+
+-- the lines that bytes end, of which the first is begun already
+pub ended_lines : List ℕ → List ℕ → List (List ℕ)
+ended_lines begun [] = []
+ended_lines begun (b ∷ bs) = cond (eqb b 10) (begun ∷ ended_lines [] bs) (ended_lines (begun ++ b ∷ []) bs)
+
+-- the line that is begun after them
+pub begun_line : List ℕ → List ℕ → List ℕ
+begun_line begun [] = begun
+begun_line begun (b ∷ bs) = cond (eqb b 10) (begun_line [] bs) (begun_line (begun ++ b ∷ []) bs)
+
+ended_lines-end : (begun : List ℕ) (b : ℕ) (bs : List ℕ) → eqb b 10 ≡ true → ended_lines begun (b ∷ bs) ≡ begun ∷ ended_lines [] bs
+unfolding ended_lines
+ended_lines-end begun b bs e = ap (λ (t : Bool). cond t (begun ∷ ended_lines [] bs) (ended_lines (begun ++ b ∷ []) bs)) e
+
+ended_lines-inside : (begun : List ℕ) (b : ℕ) (bs : List ℕ) → eqb b 10 ≡ false → ended_lines begun (b ∷ bs) ≡ ended_lines (begun ++ b ∷ []) bs
+unfolding ended_lines
+ended_lines-inside begun b bs e = ap (λ (t : Bool). cond t (begun ∷ ended_lines [] bs) (ended_lines (begun ++ b ∷ []) bs)) e
+
+begun_line-end : (begun : List ℕ) (b : ℕ) (bs : List ℕ) → eqb b 10 ≡ true → begun_line begun (b ∷ bs) ≡ begun_line [] bs
+unfolding begun_line
+begun_line-end begun b bs e = ap (λ (t : Bool). cond t (begun_line [] bs) (begun_line (begun ++ b ∷ []) bs)) e
+
+begun_line-inside : (begun : List ℕ) (b : ℕ) (bs : List ℕ) → eqb b 10 ≡ false → begun_line begun (b ∷ bs) ≡ begun_line (begun ++ b ∷ []) bs
+unfolding begun_line
+begun_line-inside begun b bs e = ap (λ (t : Bool). cond t (begun_line [] bs) (begun_line (begun ++ b ∷ []) bs)) e
+
+-- all lines are those that a front ends, and then those of the rest, of which the first is begun
+lines-from : (begun front rest : List ℕ) → onto begun (lines (front ++ rest)) ≡ ended_lines begun front ++ onto (begun_line begun front) (lines rest)
+unfolding ended_lines begun_line
+lines-from begun [] rest = refl
+lines-from begun (b ∷ front) rest = elim (either (eqb b 10)) [
+  | inl e ↦
+      ap (onto begun) (lines-end b (front ++ rest) e)
+      ∙ onto-some begun [] (lines (front ++ rest))
+      ∙ ap (λ l. l ∷ lines (front ++ rest)) (append-nil begun)
+      ∙ ap (λ ls. begun ∷ ls) (sym (onto-none (lines (front ++ rest))) ∙ lines-from [] front rest)
+      ∙ sym (ap (λ ls. ls ++ onto (begun_line begun (b ∷ front)) (lines rest)) (ended_lines-end begun b front e)
+      ∙ ap (λ l. (begun ∷ ended_lines [] front) ++ onto l (lines rest)) (begun_line-end begun b front e))
+  | inr e ↦
+      ap (onto begun) (lines-inside b (front ++ rest) e)
+      ∙ onto-onto_first begun b (lines (front ++ rest))
+      ∙ lines-from (begun ++ b ∷ []) front rest
+      ∙ sym (ap (λ ls. ls ++ onto (begun_line begun (b ∷ front)) (lines rest)) (ended_lines-inside begun b front e)
+      ∙ ap (λ l. ended_lines (begun ++ b ∷ []) front ++ onto l (lines rest)) (begun_line-inside begun b front e))
+]
+
+-- what is kept of the line that is begun
+kept-begun : (begun front : List ℕ) → line_after (kept_of begun) front ≡ kept_of (begun_line begun front)
+unfolding line_after begun_line
+kept-begun begun [] = refl
+kept-begun begun (b ∷ front) = elim (either (eqb b 10)) [
+  | inl e ↦
+      ap (λ k. line_after k front) (stepped-end (kept_of begun) b e)
+      ∙ kept-begun [] front
+      ∙ ap kept_of (sym (begun_line-end begun b front e))
+  | inr e ↦
+      ap (λ k. line_after k front) (stepped-inside (kept_of begun) b e ∙ pushed-kept_of begun b)
+      ∙ kept-begun (begun ++ b ∷ []) front
+      ∙ ap kept_of (sym (begun_line-inside begun b front e))
+]
+
+-- a line that is kept is whole
+IsSomeAnd-kept_of : (line : List ℕ) (P : List ℕ → Type 0) → IsSomeAnd (kept_of line) P → P line
+IsSomeAnd-kept_of line P h = elim (cases_lt 8192 (length line)) [
+  | inl long ↦ absurd (subst (λ k. IsSomeAnd k P) (kept_of-long line long) h)
+  | inr short ↦ subst (λ k. IsSomeAnd k P) (kept_of-short line short) h
+]
+
+-- the line that a byte 10 ends, among all lines
+pub lines-ended : (front rest : List ℕ) → lines (front ++ 10 ∷ rest) ≡ ended_lines [] front ++ begun_line [] front ∷ lines rest
+lines-ended front rest =
+    sym (onto-none (lines (front ++ 10 ∷ rest)))
+    ∙ lines-from [] front (10 ∷ rest)
+    ∙ ap (λ ls. ended_lines [] front ++ onto (begun_line [] front) ls) (lines-end 10 rest refl)
+    ∙ ap (λ ls. ended_lines [] front ++ ls) (onto-some (begun_line [] front) [] (lines rest))
+    ∙ ap (λ l. ended_lines [] front ++ l ∷ lines rest) (append-nil (begun_line [] front))
+
+onto-nil : (line : List ℕ) → (line ≡ [] → ⊥) → onto line [] ≡ line ∷ []
+onto-nil [] some = absurd (some refl)
+onto-nil (b ∷ bs) some = refl
+
+-- the last line, which has no end, among all lines
+pub lines-last : (bytes : List ℕ) → (line_after (Some []) bytes ≡ Some [] → ⊥) → lines bytes ≡ ended_lines [] bytes ++ begun_line [] bytes ∷ []
+unfolding lines
+lines-last bytes some =
+    ap lines (sym (append-nil bytes))
+    ∙ sym (onto-none (lines (bytes ++ [])))
+    ∙ lines-from [] bytes []
+    ∙ ap (λ ls. ended_lines [] bytes ++ ls) (onto-nil (begun_line [] bytes) (λ none. some (kept-begun [] bytes ∙ ap kept_of none)))
+
+-- what holds of the line that is kept holds of the line that is begun
+pub begun-is : (bytes : List ℕ) (P : List ℕ → Type 0) → IsSomeAnd (line_after (Some []) bytes) P → P (begun_line [] bytes)
+begun-is bytes P h = IsSomeAnd-kept_of (begun_line [] bytes) P (subst (λ k. IsSomeAnd k P) (kept-begun [] bytes) h)
+
 -- every line that is too long gives the same
 pub record SameForLong (f : List ℕ → List ℕ) : Type 0 where
   pub same : (line : List ℕ) → 8192 < length line → f line ≡ long_line
@@ -195,6 +292,26 @@ module _ (f : List ℕ → List ℕ) where
           | inl h ↦ rw (kept_of-long line h) (sym (long.same line h))
           | inr h ↦ rw (kept_of-short line h) refl
         ]
+
+    -- what the lines give that bytes end
+    ended_lines-from : (begun bytes : List ℕ) → flat_map f (ended_lines begun bytes) ≡ ended f (kept_of begun) bytes
+    unfolding ended_lines ended
+    ended_lines-from begun [] = refl
+    ended_lines-from begun (b ∷ bs) = elim (either (eqb b 10)) [
+      | inl e ↦
+          ap (flat_map f) (ended_lines-end begun b bs e)
+          ∙ ap (λ t. f begun ++ t) (ended_lines-from [] bs)
+          ∙ sym (ap (λ t. t ++ ended f (stepped (kept_of begun) b) bs) (ended_at-end (kept_of begun) b e ∙ kept_report-kept_of begun)
+          ∙ ap (λ k. f begun ++ ended f k bs) (stepped-end (kept_of begun) b e))
+      | inr e ↦
+          ap (flat_map f) (ended_lines-inside begun b bs e)
+          ∙ ended_lines-from (begun ++ b ∷ []) bs
+          ∙ sym (ap (λ t. t ++ ended f (stepped (kept_of begun) b) bs) (ended_at-inside (kept_of begun) b e)
+          ∙ ap (λ k. ended f k bs) (stepped-inside (kept_of begun) b e ∙ pushed-kept_of begun b))
+    ]
+
+    pub output-ended_lines : (bytes : List ℕ) → flat_map f (ended_lines [] bytes) ≡ ended f (Some []) bytes
+    output-ended_lines bytes = ended_lines-from [] bytes
 
     -- what is left at the end of the bytes is a line, unless it is empty
     last-kept_of : (line : List ℕ) → flat_map f (onto line []) ≡ last f (kept_of line)

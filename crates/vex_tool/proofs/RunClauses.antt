@@ -1,21 +1,26 @@
 -- What a run did, clause by clause.
 use Rattle.std.proofs.Common.{◌≡◌, ℕ, ◌+◌, ◌<◌, ◌≤◌, List, ◌++◌, length, take, Option, Some, None, sym, ap, ◌∙◌, subst, refl, inl, inr, arith}
-use Rattle.std.specs.Prelude.{◌↔◌, IfSome, IsSomeAnd}
+use Rattle.std.specs.Prelude.{◌↔◌, ◌⊎◌, Bool, true, false, IfSome, IsFalse, IsSomeAnd, IsTrue}
 use Rattle.std.specs.Io.KnownBytes.{Appends, Consumes, IsAtEnd}
 use Rattle.std.proofs.lemmas.Bool.{cases_lt}
 use Rattle.std.proofs.lemmas.List.{append-nil, length-append}
 use Rattle.vex_tool.specs.declared.command.Command.{Command}
+use Rattle.vex_tool.specs.declared.command.Command.TheVariants.{Recode, Sweep}
 use Rattle.vex_tool.specs.declared.status.Status.{Status}
 use Rattle.vex_tool.specs.declared.status.Status.TheVariants.{Done, ReadFault, Usage, WriteFault, NoMemory, TooLong}
 use Rattle.vex_tool.specs.Ends.{AppendsFront, IsQuiet, RoseByMoreThan, WhereTaken, counted}
 use Rattle.vex_tool.specs.Lines.{whole}
-use Rattle.vex_tool.specs.Report.{report, output}
+use Rattle.vex_tool.specs.Report.{report, output, takes_memory, LackedMemory, MayLackMemory}
 use Rattle.vex_tool.specs.Run.{EndsBy, Moment, Ran, input_limit}
 use Rattle.vex_tool.proofs.EndsLemmas.{WhereTaken-from}
 
 -- a fact of the value that an option has
 pub IfSome-at : {A : Type 0} (o : Option A) (x : A) (P : A → Type 0) → o ≡ Some x → P x → IfSome o P
 IfSome-at o x P e p = rw e p
+
+-- a fact of the value that an option must have
+pub IsSomeAnd-at : {A : Type 0} (o : Option A) (x : A) (P : A → Type 0) → o ≡ Some x → IsSomeAnd o P → P x
+IsSomeAnd-at o x P e h = subst (λ o. IsSomeAnd o P) e h
 
 -- what was taken of a source that has nothing left is all that it told
 IfSome-taken : (old new : Option (List ℕ)) (bytes : List ℕ) (P : List ℕ → Type 0) → Consumes old new bytes → IsAtEnd new → P bytes
@@ -33,27 +38,27 @@ length-taken (Some xs) None bytes n taken h = absurd taken
 length-taken (Some xs) (Some ys) bytes n taken h = omega (arith, ap length taken, length-append bytes ys)
 
 -- the status past the limit, and no other, comes with more bytes than the limit
-past_limit : (status : Status) (f : List ℕ → List ℕ) (bytes : List ℕ) (before after : Moment) → EndsBy status f bytes before after
+past_limit : (status : Status) (f : List ℕ → List ℕ) (P : List ℕ → Type 0) (bytes : List ℕ) (before after : Moment) → EndsBy status f P bytes before after
     → (status ≡ TooLong) ↔ (input_limit < length bytes)
-past_limit Done f bytes before after ends = (λ e. cc, λ h. absurd (omega (arith, ends.within)))
-past_limit ReadFault f bytes before after ends = (λ e. cc, λ h. absurd (omega (arith, ends.within)))
-past_limit WriteFault f bytes before after ends = (λ e. cc, λ h. absurd (omega (arith, ends.within)))
-past_limit TooLong f bytes before after ends = (λ e. omega (arith, ends.past), λ h. refl)
-past_limit Usage f bytes before after ends = absurd ends
-past_limit NoMemory f bytes before after ends = absurd ends
+past_limit Done f P bytes before after ends = (λ e. cc, λ h. absurd (omega (arith, ends.within)))
+past_limit ReadFault f P bytes before after ends = (λ e. cc, λ h. absurd (omega (arith, ends.within)))
+past_limit WriteFault f P bytes before after ends = (λ e. cc, λ h. absurd (omega (arith, ends.within)))
+past_limit TooLong f P bytes before after ends = (λ e. omega (arith, ends.past), λ h. refl)
+past_limit Usage f P bytes before after ends = absurd ends
+past_limit NoMemory f P bytes before after ends = (λ e. cc, λ h. absurd (omega (arith, ends.within)))
 
 -- where nothing failed and no byte came past the limit, all is done
-completed : (status : Status) (f : List ℕ → List ℕ) (bytes : List ℕ) (before after : Moment) → EndsBy status f bytes before after
+completed : (status : Status) (f : List ℕ → List ℕ) (P : List ℕ → Type 0) (bytes : List ℕ) (before after : Moment) → EndsBy status f P bytes before after
     → IsQuiet before.source_faults after.source_faults → IsQuiet before.sink_faults after.sink_faults
-    → (length bytes ≡ input_limit + 1 → ⊥) → status ≡ Done
-completed Done f bytes before after ends source sink within = refl
-completed ReadFault f bytes before after ends source sink within =
+    → (length bytes ≡ input_limit + 1 → ⊥) → (status ≡ Done) ⊎ (status ≡ NoMemory)
+completed Done f P bytes before after ends source sink within = inl refl
+completed ReadFault f P bytes before after ends source sink within =
     absurd (elim ends.cause [ inl rose ↦ omega (arith, source.0, rose) | inr is_last ↦ source.1 is_last ])
-completed WriteFault f bytes before after ends source sink within =
+completed WriteFault f P bytes before after ends source sink within =
     absurd (elim ends.cause [ inl rose ↦ omega (arith, sink.0, rose) | inr is_last ↦ sink.1 is_last ])
-completed TooLong f bytes before after ends source sink within = absurd (within ends.past)
-completed Usage f bytes before after ends source sink within = absurd ends
-completed NoMemory f bytes before after ends source sink within = absurd ends
+completed TooLong f P bytes before after ends source sink within = absurd (within ends.past)
+completed Usage f P bytes before after ends source sink within = absurd ends
+completed NoMemory f P bytes before after ends source sink within = inr refl
 
 -- a number that rose by a byte more than the limit, or stopped at its last value
 rose : (n before after : ℕ) → after ≡ counted before (n + 1) → RoseByMoreThan n before after
@@ -62,10 +67,19 @@ rose n before after e = elim (cases_lt (before + n) after) [
   | inr less ↦ inr (omega arith)
 ]
 
-module _ (c : Command) (status : Status) (before after : Moment) (ran : Ran (report c) status before after) where
+-- a command that may lack memory for a line takes memory
+takes-memory : (c : Command) (line : List ℕ) → MayLackMemory c line → IsTrue (takes_memory c)
+takes-memory (Recode settings) line h = absurd h
+takes-memory (Sweep settings) line h = refl
+
+apart : (b : Bool) → IsTrue b → IsFalse b → ⊥
+apart true is isnt = cc
+apart false is isnt = cc
+
+module _ (c : Command) (status : Status) (before after : Moment) (ran : Ran (report c) (MayLackMemory c) status before after) where
   -- the run, where its status is known
-  by : (known : Status) → status ≡ known → Ran (report c) known before after
-  by known e = subst (λ s. Ran (report c) s before after) e ran
+  by : (known : Status) → status ≡ known → Ran (report c) (MayLackMemory c) known before after
+  by known e = subst (λ s. Ran (report c) (MayLackMemory c) s before after) e ran
 
   pub done_written : status ≡ Done → IfSome before.left (λ input. Appends before.text after.text (output c input))
   unfolding output
@@ -82,11 +96,11 @@ module _ (c : Command) (status : Status) (before after : Moment) (ran : Ran (rep
   pub too_long_by_number : before.given + input_limit < after.given → status ≡ TooLong
   too_long_by_number more =
       let at_most = ran.at_most in
-      (past_limit status (report c) ran.bytes before after ran.ends).1 (omega arith)
+      (past_limit status (report c) (MayLackMemory c) ran.bytes before after ran.ends).1 (omega arith)
 
   pub too_long_exactly : WhereTaken before.left after.left (λ taken. (status ≡ TooLong) ↔ (input_limit < length taken))
   too_long_exactly =
-      WhereTaken-from before.left after.left _ ran.bytes ran.taken (past_limit status (report c) ran.bytes before after ran.ends)
+      WhereTaken-from before.left after.left _ ran.bytes ran.taken (past_limit status (report c) (MayLackMemory c) ran.bytes before after ran.ends)
 
   pub after_read_fault : status ≡ ReadFault → WhereTaken before.left after.left (λ taken. Appends before.text after.text (output c (whole taken)))
   unfolding output
@@ -106,15 +120,27 @@ module _ (c : Command) (status : Status) (before after : Moment) (ran : Ran (rep
       let long = by TooLong e in
       WhereTaken-from before.left after.left _ long.bytes long.taken long.ends.written
 
-  pub completes : IsQuiet before.source_faults after.source_faults → IsQuiet before.sink_faults after.sink_faults
-      → IsSomeAnd before.left (λ input. length input ≤ input_limit) → status ≡ Done
-  completes source sink within =
+  pub completes_or_lacks : IsQuiet before.source_faults after.source_faults → IsQuiet before.sink_faults after.sink_faults
+      → IsSomeAnd before.left (λ input. length input ≤ input_limit) → (status ≡ Done) ⊎ (status ≡ NoMemory)
+  completes_or_lacks source sink within =
       let fits = length-taken before.left after.left ran.bytes input_limit ran.taken within in
-      completed status (report c) ran.bytes before after ran.ends source sink (λ past. omega (arith, fits, past))
+      completed status (report c) (MayLackMemory c) ran.bytes before after ran.ends source sink (λ past. omega (arith, fits, past))
 
-  pub completes_by_number : IsQuiet before.source_faults after.source_faults → IsQuiet before.sink_faults after.sink_faults
-      → (RoseByMoreThan input_limit before.given after.given → ⊥) → status ≡ Done
-  completes_by_number source sink within =
-      completed status (report c) ran.bytes before after ran.ends source sink
+  pub completes_or_lacks_by_number : IsQuiet before.source_faults after.source_faults → IsQuiet before.sink_faults after.sink_faults
+      → (RoseByMoreThan input_limit before.given after.given → ⊥) → (status ≡ Done) ⊎ (status ≡ NoMemory)
+  completes_or_lacks_by_number source sink within =
+      completed status (report c) (MayLackMemory c) ran.bytes before after ran.ends source sink
       (λ past. within (rose input_limit before.given after.given
       (ran.number (omega (arith, past)) ∙ ap (counted before.given) past)))
+
+  -- only a command that takes memory lacks it
+  pub no_memory : status ≡ NoMemory → IsTrue (takes_memory c)
+  no_memory e = takes-memory c _ (by NoMemory e).ends.answered.is
+
+  pub done_unless : IsFalse (takes_memory c) → (status ≡ Done) ⊎ (status ≡ NoMemory) → status ≡ Done
+  done_unless takes_none ends = elim ends [ inl e ↦ e | inr e ↦ absurd (apart (takes_memory c) (no_memory e) takes_none) ]
+
+  pub after_no_memory : status ≡ NoMemory → WhereTaken before.left after.left (λ taken. LackedMemory c taken before.text after.text)
+  after_no_memory e =
+      let lacked = by NoMemory e in
+      WhereTaken-from before.left after.left _ lacked.bytes lacked.taken lacked.ends.answered

@@ -1,16 +1,20 @@
 -- The loop over the input: what is so between two reads, and how each end follows from it.
-use Rattle.std.proofs.Common.{◌≡◌, ℕ, ◌+◌, ◌-◌, ◌<◌, ◌≤◌, List, [], ◌++◌, length, take, Option, Some, sym, ap, ◌∙◌, refl, inl, inr, arith}
+use Rattle.std.proofs.Common.{◌≡◌, ℕ, ◌+◌, ◌-◌, ◌<◌, ◌≤◌, ◌≢◌, List, [], ◌∷◌, ◌++◌, length, take, Option, Some, Err, append_assoc, subst, sym, ap, ◌∙◌, refl, inl, inr, arith}
+use Rattle.std.specs.Prelude.{IsSomeAnd}
 use Rattle.std.specs.Io.KnownBytes.{Appends, Consumes, Keeps, IsAtEnd}
 use Rattle.std.specs.List.{flat_map}
 use Rattle.std.proofs.lemmas.Bool.{cases_lt}
 use Rattle.std.proofs.lemmas.List.{append-nil, length-append, length-take-le, take_at}
-use Rattle.vex_tool.specs.declared.status.Status.TheVariants.{Done, ReadFault, WriteFault, TooLong}
-use Rattle.vex_tool.specs.Ends.{AppendsFront, RoseOrIsLast, counted}
+use Rattle.vex_tool.specs.declared.halt.Halt.{Halt}
+use Rattle.vex_tool.specs.declared.halt.Halt.TheVariants as halt
+use Rattle.vex_tool.specs.declared.status.Status.TheVariants.{Done, ReadFault, WriteFault, NoMemory, TooLong}
+use Rattle.vex_tool.specs.Ends.{Answers, AppendsFront, RoseOrIsLast, counted}
 use Rattle.vex_tool.specs.Lines.{lines, whole}
-use Rattle.vex_tool.specs.LineMachine.{line_after, ended, last}
+use Rattle.vex_tool.specs.LineMachine.{EndedBefore, line_after, ended, last}
 use Rattle.vex_tool.specs.Run.{Moment, Ran, input_limit}
+use Rattle.vex_tool.specs.Status.{status_of_halt}
 use Rattle.vex_tool.proofs.EndsLemmas.{Appends-none, Appends-then, AppendsFront-then, AppendsFront-more, Consumes-none, Consumes-then, Consumes-keeps}
-use Rattle.vex_tool.proofs.LineMachineLemmas.{SameForLong, line_after-append, ended-append, output-ended, output-whole}
+use Rattle.vex_tool.proofs.LineMachineLemmas.{SameForLong, begun-is, begun_line, ended-append, ended_lines, line_after-append, lines-ended, lines-last, output-ended, output-ended_lines, output-whole}
 
 -- between two reads: what was taken so far, how much room there is to the limit, and what is kept of the
 -- unfinished line
@@ -51,7 +55,7 @@ module _ (f : List ℕ → List ℕ) (before : Moment) where
     sink_quiet = refl;
   }
 
-  module _ (line : Option (List ℕ)) (room : ℕ) (now : Moment) (going : Going f before line room now) where
+  module _ (P : List ℕ → Type 0) (line : Option (List ℕ)) (room : ℕ) (now : Moment) (going : Going f before line room now) where
     -- ---- what was taken, with one more piece
 
     taken-more : (piece : List ℕ) (mid : Moment) → Gave piece now mid → Consumes before.left mid.left (going.front ++ piece)
@@ -124,7 +128,7 @@ module _ (f : List ℕ → List ℕ) (before : Moment) where
 
     pub Ran-read_fault : SameForLong f → (left : Option (List ℕ)) (given faults : ℕ)
         → Keeps now.left left → given ≡ now.given → RoseOrIsLast now.source_faults faults
-        → Ran f ReadFault before (record now { left = left; given = given; source_faults = faults })
+        → Ran f P ReadFault before (record now { left = left; given = given; source_faults = faults })
     Ran-read_fault long left given faults keeps same cause =
         let limit = going.to_limit in
         record {
@@ -141,7 +145,7 @@ module _ (f : List ℕ → List ℕ) (before : Moment) where
         }
 
     pub Ran-too_long : SameForLong f → (piece : List ℕ) (mid : Moment) → Gave piece now mid → room ≡ 0 → length piece ≡ 1
-        → Ran f TooLong before mid
+        → Ran f P TooLong before mid
     Ran-too_long long piece mid gave full one =
         let len = length-append going.front piece in
         let limit = going.to_limit in
@@ -176,7 +180,7 @@ module _ (f : List ℕ → List ℕ) (before : Moment) where
 
     pub Ran-done : SameForLong f → (mid : Moment) (text : Option (List ℕ)) (faults : ℕ) → Gave [] now mid → IsAtEnd mid.left
         → Appends mid.text text (last f line) → faults ≡ mid.sink_faults
-        → Ran f Done before (record mid { text = text; sink_faults = faults })
+        → Ran f P Done before (record mid { text = text; sink_faults = faults })
     Ran-done long mid text faults gave at_end written quiet =
         let limit = going.to_limit in
         record {
@@ -195,7 +199,7 @@ module _ (f : List ℕ → List ℕ) (before : Moment) where
 
     pub Ran-finish_fault : SameForLong f → (mid : Moment) (text : Option (List ℕ)) (faults : ℕ) → Gave [] now mid
         → AppendsFront mid.text text (last f line) → RoseOrIsLast mid.sink_faults faults
-        → Ran f WriteFault before (record mid { text = text; sink_faults = faults })
+        → Ran f P WriteFault before (record mid { text = text; sink_faults = faults })
     Ran-finish_fault long mid text faults gave written cause =
         let limit = going.to_limit in
         record {
@@ -213,7 +217,7 @@ module _ (f : List ℕ → List ℕ) (before : Moment) where
 
     pub Ran-feed_fault : SameForLong f → (piece : List ℕ) (mid : Moment) (text : Option (List ℕ)) (faults : ℕ) → Gave piece now mid
         → length piece ≤ room → AppendsFront mid.text text (ended f line piece) → RoseOrIsLast mid.sink_faults faults
-        → Ran f WriteFault before (record mid { text = text; sink_faults = faults })
+        → Ran f P WriteFault before (record mid { text = text; sink_faults = faults })
     Ran-feed_fault long piece mid text faults gave fits written cause =
         let len = length-append going.front piece in
         let limit = going.to_limit in
@@ -230,6 +234,88 @@ module _ (f : List ℕ → List ℕ) (before : Moment) where
             cause = rw (gave.sink_quiet ∙ going.sink_quiet) at cause;
           };
         }
+
+    -- ---- there is no memory
+
+    -- the bytes before the line that lacked it, and what follows
+    pub Ran-feed_lacked : SameForLong f → (piece : List ℕ) (mid : Moment) (text : Option (List ℕ)) (faults : ℕ) (written : List ℕ)
+        → Gave piece now mid → length piece ≤ room → EndedBefore f P line piece written → Appends mid.text text written
+        → faults ≡ mid.sink_faults → Ran f P NoMemory before (record mid { text = text; sink_faults = faults })
+    Ran-feed_lacked long piece mid text faults written gave fits ended_before appended quiet =
+        let len = length-append going.front piece in
+        let limit = going.to_limit in
+        let here : List ℕ = going.front ++ ended_before.front in
+        let kept : line_after line ended_before.front ≡ line_after (Some []) here =
+        ap (λ k. line_after k ended_before.front) going.kept ∙ sym (line_after-append (Some []) going.front ended_before.front) in
+        record {
+          bytes = going.front ++ piece;
+          taken = taken-more piece mid gave;
+          number = number-more piece mid gave;
+          at_most = number-at_most-more piece mid gave;
+          ends = record {
+            within = omega arith;
+            answered = record {
+              earlier = ended_lines [] here;
+              line = begun_line [] here;
+              later = lines ended_before.rest;
+              split =
+                  ap (λ p. lines (going.front ++ p)) ended_before.split
+                  ∙ ap lines (sym (append_assoc going.front ended_before.front (10 ∷ ended_before.rest)))
+                  ∙ lines-ended here ended_before.rest;
+              is = begun-is here P (subst (λ k. IsSomeAnd k P) kept ended_before.line);
+              written = rw (output-ended_lines f long here, ended-more ended_before.front)
+                  (Appends-then before.text mid.text text _ _ (written-more piece mid gave) (subst (λ t. Appends mid.text text t) ended_before.gives appended));
+            };
+            source_quiet = gave.source_quiet ∙ going.source_quiet;
+            sink_quiet = quiet ∙ gave.sink_quiet ∙ going.sink_quiet;
+          };
+        }
+
+    pub Ran-finish_lacked : SameForLong f → (mid : Moment) (text : Option (List ℕ)) (faults : ℕ) → Gave [] now mid
+        → (line ≡ Some [] → ⊥) → IsSomeAnd line P → Appends mid.text text [] → faults ≡ mid.sink_faults
+        → Ran f P NoMemory before (record mid { text = text; sink_faults = faults })
+    Ran-finish_lacked long mid text faults gave some is appended quiet =
+        let limit = going.to_limit in
+        record {
+          bytes = going.front;
+          taken = taken-none mid gave;
+          number = number-none mid gave;
+          at_most = number-at_most-none mid gave;
+          ends = record {
+            within = omega arith;
+            answered = record {
+              earlier = ended_lines [] going.front;
+              line = begun_line [] going.front;
+              later = [];
+              split = lines-last going.front (λ none. some (going.kept ∙ none));
+              is = begun-is going.front P (subst (λ k. IsSomeAnd k P) going.kept is);
+              written = rw (output-ended_lines f long going.front)
+                  (rw append-nil at (Appends-then before.text mid.text text _ [] (written-more [] mid gave) appended));
+            };
+            source_quiet = gave.source_quiet ∙ going.source_quiet;
+            sink_quiet = quiet ∙ gave.sink_quiet ∙ going.sink_quiet;
+          };
+        }
+
+    -- ---- by what stopped the answers
+
+    pub Ran-feed_halted : SameForLong f → (piece : List ℕ) (mid : Moment) (text : Option (List ℕ)) (faults : ℕ) (halt : Halt)
+        → Gave piece now mid → length piece ≤ room
+        → Answers (λ written. EndedBefore f P line piece written) (Err halt) mid.text text mid.sink_faults faults (ended f line piece)
+        → Ran f P (status_of_halt halt) before (record mid { text = text; sink_faults = faults })
+    Ran-feed_halted long piece mid text faults halt.WriteFault gave fits h =
+        Ran-feed_fault long piece mid text faults gave fits (h.front refl) (h.cause refl)
+    Ran-feed_halted long piece mid text faults halt.NoMemory gave fits h =
+        let lacked = h.lacked refl in
+        Ran-feed_lacked long piece mid text faults lacked.0 gave fits lacked.1 lacked.2 (h.lacked_quiet refl)
+
+    pub Ran-finish_halted : SameForLong f → (mid : Moment) (text : Option (List ℕ)) (faults : ℕ) (halt : Halt) → Gave [] now mid
+        → Answers (λ written. (written ≡ []) × (line ≢ Some []) × IsSomeAnd line P) (Err halt) mid.text text mid.sink_faults faults (last f line)
+        → Ran f P (status_of_halt halt) before (record mid { text = text; sink_faults = faults })
+    Ran-finish_halted long mid text faults halt.WriteFault gave h = Ran-finish_fault long mid text faults gave (h.front refl) (h.cause refl)
+    Ran-finish_halted long mid text faults halt.NoMemory gave h =
+        let lacked = h.lacked refl in
+        Ran-finish_lacked long mid text faults gave lacked.1.1 lacked.1.2 (subst (λ t. Appends mid.text text t) lacked.1.0 lacked.2) (h.lacked_quiet refl)
 
 -- a read put n bytes into the first places
 pub Gave-read : (now : Moment) (left : Option (List ℕ)) (given faults n : ℕ) (into : List ℕ) → n ≤ length into

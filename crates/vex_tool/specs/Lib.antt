@@ -7,6 +7,7 @@ pub mod Command
 pub mod ErrorLine
 pub mod ResultLine
 pub mod Laws
+pub mod SweepLines
 pub mod Report
 pub mod LineMachine
 pub mod Run

@@ -1,5 +1,6 @@
 -- The lines of some bytes.
-use Rattle.std.specs.Prelude.{ℕ, ◌==◌, List, [], ◌∷◌, if◌then◌else◌}
+use Rattle.std.specs.Prelude.{◌≡◌, ℕ, ◌==◌, List, [], ◌∷◌, ◌++◌, flat_map, Option, if◌then◌else◌}
+use Rattle.std.specs.Io.KnownBytes.{Appends}
 
 -- the lines, with b before the first of them
 abbrev pub onto_first : ℕ → List (List ℕ) → List (List ℕ)
@@ -20,3 +21,12 @@ onto_whole b (c ∷ cs) = b ∷ c ∷ cs
 unfoldable pub whole : List ℕ → List ℕ
 whole [] = []
 whole (b ∷ bs) = onto_whole b (whole bs)
+
+-- what f gives of lines was written for the lines of these bytes that stand before one of which P holds
+pub record AnsweredBefore (f : List ℕ → List ℕ) (P : List ℕ → Type 0) (bytes : List ℕ) (old new : Option (List ℕ)) : Type 0 where
+  pub earlier : List (List ℕ)
+  pub line : List ℕ
+  pub later : List (List ℕ)
+  pub split : lines bytes ≡ earlier ++ line ∷ later
+  pub is : P line
+  pub written : Appends old new (flat_map f earlier)

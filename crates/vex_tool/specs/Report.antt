@@ -1,14 +1,16 @@
 -- What is written for a line, and for some bytes.
-use Rattle.std.specs.Prelude.{ℕ, ◌==◌, nat_lt, Bool, not, ◌||◌, List, length, filter, flat_map, codes, Result, Ok, Err, if◌then◌else◌}
+use Rattle.std.specs.Prelude.{ℕ, ◌==◌, nat_lt, Bool, true, false, not, ◌||◌, List, length, filter, flat_map, codes, Option, Result, Ok, Err, IsOk, if◌then◌else◌}
 use Rattle.hex.specs.Hex.{decode_of}
 use Rattle.hex.specs.declared.error.FromHexError.{FromHexError}
 use Rattle.vex_tool.specs.declared.command.Command.{Command}
-use Rattle.vex_tool.specs.declared.command.Command.TheVariants.{Recode}
+use Rattle.vex_encode.specs.Sweep.{swept}
+use Rattle.vex_tool.specs.declared.command.Command.TheVariants.{Recode, Sweep}
 use Rattle.vex_tool.specs.declared.report.LineError.{LineError}
 use Rattle.vex_tool.specs.declared.report.LineError.TheVariants.{LongLine, BadHex}
 use Rattle.vex_tool.specs.ErrorLine.{error_line}
-use Rattle.vex_tool.specs.Lines.{lines}
+use Rattle.vex_tool.specs.Lines.{lines, AnsweredBefore}
 use Rattle.vex_tool.specs.ResultLine.{result_line}
+use Rattle.vex_tool.specs.SweepLines.{sweep_lines}
 
 -- the name of an error
 abbrev pub line_error_name : LineError → List ℕ
@@ -36,6 +38,7 @@ code line = if nat_lt 8192 (length line) then Err LongLine else or_bad_hex (deco
 abbrev pub code_report : Command → Result (List ℕ) LineError → List ℕ
 code_report command (Err e) = error_line (line_error_name e)
 code_report (Recode settings) (Ok bytes) = result_line settings bytes
+code_report (Sweep settings) (Ok bytes) = sweep_lines (swept settings bytes)
 
 -- what is written for a line
 unfoldable pub report : Command → List ℕ → List ℕ
@@ -44,3 +47,17 @@ report command line = code_report command (code line)
 -- what is written for some bytes: the reports of their lines, one after another
 unfoldable pub output : Command → List ℕ → List ℕ
 output command bytes = flat_map (report command) (lines bytes)
+
+-- there may be no memory for the report of a line: it writes code, which the command sweeps
+abbrev pub MayLackMemory : Command → List ℕ → Type 0
+MayLackMemory (Recode settings) line = ⊥
+MayLackMemory (Sweep settings) line = IsOk (code line)
+
+-- whether a command takes memory
+abbrev pub takes_memory : Command → Bool
+takes_memory (Recode settings) = false
+takes_memory (Sweep settings) = true
+
+-- of the lines of these bytes, those before one that there was no memory for were answered
+abbrev pub LackedMemory : Command → List ℕ → Option (List ℕ) → Option (List ℕ) → Type 0
+LackedMemory command bytes old new = AnsweredBefore (report command) (MayLackMemory command) bytes old new

@@ -5,7 +5,7 @@ use Rattle.std.specs.Io.KnownBytes.{Appends, Consumes, IsAtEnd}
 use Rattle.vex_tool.specs.declared.status.Status.{Status}
 use Rattle.vex_tool.specs.declared.status.Status.TheVariants.{Done, ReadFault, Usage, WriteFault, NoMemory, TooLong}
 use Rattle.vex_tool.specs.Ends.{AppendsFront, RoseOrIsLast, counted}
-use Rattle.vex_tool.specs.Lines.{lines, whole}
+use Rattle.vex_tool.specs.Lines.{lines, whole, AnsweredBefore}
 
 -- the most bytes of input that a run answers; it takes one more where there is one
 abbrev pub input_limit : ℕ
@@ -41,6 +41,13 @@ pub record FailedWriting (f : List ℕ → List ℕ) (bytes : List ℕ) (before 
   pub source_quiet : after.source_faults ≡ before.source_faults
   pub cause : RoseOrIsLast before.sink_faults after.sink_faults
 
+-- there was no memory for a line, once those before it were answered
+pub record FailedAllocating (f : List ℕ → List ℕ) (P : List ℕ → Type 0) (bytes : List ℕ) (before after : Moment) : Type 0 where
+  pub within : length bytes ≤ input_limit
+  pub answered : AnsweredBefore f P bytes before.text after.text
+  pub source_quiet : after.source_faults ≡ before.source_faults
+  pub sink_quiet : after.sink_faults ≡ before.sink_faults
+
 -- one byte came past the limit, once the whole lines up to it were answered
 pub record PassedLimit (f : List ℕ → List ℕ) (bytes : List ℕ) (before after : Moment) : Type 0 where
   pub past : length bytes ≡ input_limit + 1
@@ -49,18 +56,18 @@ pub record PassedLimit (f : List ℕ → List ℕ) (bytes : List ℕ) (before af
   pub sink_quiet : after.sink_faults ≡ before.sink_faults
 
 -- how a run over lines ends
-abbrev pub EndsBy : Status → (List ℕ → List ℕ) → List ℕ → Moment → Moment → Type 0
-EndsBy Done f bytes before after = Finished f bytes before after
-EndsBy ReadFault f bytes before after = FailedReading f bytes before after
-EndsBy WriteFault f bytes before after = FailedWriting f bytes before after
-EndsBy TooLong f bytes before after = PassedLimit f bytes before after
-EndsBy Usage f bytes before after = ⊥
-EndsBy NoMemory f bytes before after = ⊥
+abbrev pub EndsBy : Status → (List ℕ → List ℕ) → (List ℕ → Type 0) → List ℕ → Moment → Moment → Type 0
+EndsBy Done f P bytes before after = Finished f bytes before after
+EndsBy ReadFault f P bytes before after = FailedReading f bytes before after
+EndsBy WriteFault f P bytes before after = FailedWriting f bytes before after
+EndsBy NoMemory f P bytes before after = FailedAllocating f P bytes before after
+EndsBy TooLong f P bytes before after = PassedLimit f bytes before after
+EndsBy Usage f P bytes before after = ⊥
 
--- a run over lines took these bytes, and ended by this status
-pub record Ran (f : List ℕ → List ℕ) (status : Status) (before after : Moment) : Type 0 where
+-- a run over lines took these bytes, and ended by this status; a line of which P holds may have lacked memory
+pub record Ran (f : List ℕ → List ℕ) (P : List ℕ → Type 0) (status : Status) (before after : Moment) : Type 0 where
   pub bytes : List ℕ
   pub taken : Consumes before.left after.left bytes
   pub number : 0 < length bytes → after.given ≡ counted before.given (length bytes)
   pub at_most : after.given ≤ before.given + length bytes
-  pub ends : EndsBy status f bytes before after
+  pub ends : EndsBy status f P bytes before after

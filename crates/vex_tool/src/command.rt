@@ -12,11 +12,13 @@ use x86_uarch::profile;
 pub enum Command {
     /// Write a result line for each line, under these settings.
     Recode(InstDecoder),
+    /// Sweep the bytes of each line, under these settings.
+    Sweep(InstDecoder),
 }
 
 impl Command {
-    /// The command that the words ask for, `None` where they aren't `recode` and the name of a
-    /// profile. Whether a word was refused plays no part.
+    /// The command that the words ask for, `None` where they aren't `recode` or `sweep` and the
+    /// name of a profile. Whether a word was refused plays no part.
     pub fn of(words: &Words) -> Option<Command>
         ensures { result ≡ command words.now.0 }
     {
@@ -32,6 +34,7 @@ impl Command {
     {
         match verb {
             "recode" => profile(name).map(Command::Recode),
+            "sweep" => profile(name).map(Command::Sweep),
             _ => None,
         }
     }

@@ -1,13 +1,14 @@
 //! The loop over the input.
 
 ghost use Rattle.std.specs.Prelude.{◌≡◌, ◌<◌, min};
-ghost use Rattle.vex_tool.specs.Report.{report};
+ghost use Rattle.vex_tool.specs.Report.{report, MayLackMemory};
 ghost use Rattle.vex_tool.specs.Run.{Ran};
 
 use crate::command::Command;
 use crate::ends::{Failed, PIECE, Sink, Source};
 use crate::line_buffer::{LineBuffer, feed, finish};
 use crate::status::Status;
+use std::alloc::Global;
 
 /// How many bytes of input a run answers, at most. It takes one more where there is one, which tells that the limit
 /// is passed.
@@ -23,8 +24,13 @@ fn wanted(room: usize) -> usize
 }
 
 /// Reads lines to the end of the input, and answers each.
-pub fn answer_input<S: Source, K: Sink>(command: &Command, source: &mut S, sink: &mut K) -> Status
-    ensures { Ran (report command.now) result
+pub fn answer_input<S: Source, K: Sink>(
+    alloc: Global,
+    command: &Command,
+    source: &mut S,
+    sink: &mut K,
+) -> Status
+    ensures { Ran (report command.now) (MayLackMemory command.now) result
         (record { left = S.left source.old; given = S.given source.old; source_faults = S.faults source.old; text = K.text sink.old; sink_faults = K.faults sink.old })
         (record { left = S.left source.new; given = S.given source.new; source_faults = S.faults source.new; text = K.text sink.new; sink_faults = K.faults sink.new }) }
 {
@@ -36,15 +42,15 @@ pub fn answer_input<S: Source, K: Sink>(command: &Command, source: &mut S, sink:
         match source.read(piece) {
             Err(Failed) => return Status::ReadFault,
             Ok(0) => {
-                return match finish(command, &line, sink) {
+                return match finish(alloc, command, &line, sink) {
                     Ok(()) => Status::Done,
-                    Err(Failed) => Status::WriteFault,
+                    Err(halt) => halt.status(),
                 };
             }
             Ok(_) if room == 0 => return Status::TooLong,
             Ok(n) => {
-                if let Err(Failed) = feed(command, &mut line, &piece[..n], sink) {
-                    return Status::WriteFault;
+                if let Err(halt) = feed(alloc, command, &mut line, &piece[..n], sink) {
+                    return halt.status();
                 }
                 room -= n;
             }

@@ -1,14 +1,16 @@
 //! The unfinished line, and how a piece of the input ends lines.
 
-ghost use Rattle.std.specs.Prelude.{◌≡◌, ◌≤◌, [], ◌∷◌, length, Some, OnOk, IfSome, IsTrue, ◌↔◌, option_copied};
-ghost use Rattle.vex_tool.specs.Ends.{Writes};
-ghost use Rattle.vex_tool.specs.Report.{report};
-ghost use Rattle.vex_tool.specs.LineMachine.{pushed, stepped, line_after, kept_report, ended_at, ended, last};
+ghost use Rattle.std.specs.Prelude.{◌≡◌, ◌≢◌, ◌≤◌, [], ◌∷◌, length, Some, OnOk, IfSome, IsSomeAnd, IsTrue, ◌↔◌, option_copied};
+ghost use Rattle.vex_tool.specs.Ends.{Answers};
+ghost use Rattle.vex_tool.specs.Report.{report, MayLackMemory};
+ghost use Rattle.vex_tool.specs.LineMachine.{pushed, stepped, line_after, kept_report, ended_at, ended, last, EndedBefore};
 
 use crate::command::Command;
-use crate::ends::{Failed, Sink};
+use crate::ends::Sink;
+use crate::halt::Halt;
 use crate::report::{LineError, MAX_LINE, write_error, write_report};
 use arrayvec::ArrayVec;
+use std::alloc::Global;
 use std::marker::Model;
 
 /// The byte that ends a line.
@@ -78,58 +80,78 @@ impl LineBuffer {
 }
 
 // Writes the report of the line.
-fn answer<K: Sink>(command: &Command, line: &LineBuffer, sink: &mut K) -> Result<(), Failed>
-    ensures { Writes result (K.text sink.old) (K.text sink.new) (K.faults sink.old) (K.faults sink.new) (kept_report (report command.now) line.now) }
+fn answer<K: Sink>(
+    alloc: Global,
+    command: &Command,
+    line: &LineBuffer,
+    sink: &mut K,
+) -> Result<(), Halt>
+    ensures { Answers (λ written. (written ≡ []) × IsSomeAnd line.now (MayLackMemory command.now)) result
+        (K.text sink.old) (K.text sink.new) (K.faults sink.old) (K.faults sink.new) (kept_report (report command.now) line.now) }
 {
     match line.line() {
-        Some(bytes) => write_report(command, bytes, sink),
-        None => write_error(LineError::LongLine, sink),
+        Some(bytes) => write_report(alloc, command, bytes, sink),
+        None => {
+            write_error(LineError::LongLine, sink)?;
+            Ok(())
+        }
     }
 }
 
 // Takes a byte of the input: it ends the line, which is then answered, or is kept.
 #[tactic(auto, unfolding(crate::specs::LineMachine::stepped, crate::specs::LineMachine::ended_at))]
 fn take_byte<K: Sink>(
+    alloc: Global,
     command: &Command,
     line: &mut LineBuffer,
     byte: u8,
     sink: &mut K,
-) -> Result<(), Failed>
+) -> Result<(), Halt>
     ensures kept { OnOk result (line.new ≡ stepped line.old byte) }
-    ensures written { Writes result (K.text sink.old) (K.text sink.new) (K.faults sink.old) (K.faults sink.new) (ended_at (report command.now) line.old byte) }
+    ensures written { Answers (λ written. (written ≡ []) × (byte ≡ 10) × IsSomeAnd line.old (MayLackMemory command.now)) result
+        (K.text sink.old) (K.text sink.new) (K.faults sink.old) (K.faults sink.new) (ended_at (report command.now) line.old byte) }
 {
     if byte != LINE_END {
         line.push(byte);
         return Ok(());
     }
-    answer(command, line, sink)?;
+    answer(alloc, command, line, sink)?;
     line.clear();
     Ok(())
 }
 
-/// Takes a piece of the input: answers each line that it ends, and keeps the rest. `Failed` where the sink's
-/// write fails.
+/// Takes a piece of the input: answers each line that it ends, and keeps the rest. `WriteFault` where a write of the
+/// sink fails, and `NoMemory` where there is none for a line, once those before it are answered.
 pub fn feed<K: Sink>(
+    alloc: Global,
     command: &Command,
     line: &mut LineBuffer,
     piece: &[u8],
     sink: &mut K,
-) -> Result<(), Failed>
+) -> Result<(), Halt>
     ensures kept { OnOk result (line.new ≡ line_after line.old piece.now) }
-    ensures written { Writes result (K.text sink.old) (K.text sink.new) (K.faults sink.old) (K.faults sink.new) (ended (report command.now) line.old piece.now) }
+    ensures written { Answers (λ written. EndedBefore (report command.now) (MayLackMemory command.now) line.old piece.now written) result
+        (K.text sink.old) (K.text sink.new) (K.faults sink.old) (K.faults sink.new) (ended (report command.now) line.old piece.now) }
 {
     for &byte in piece {
-        take_byte(command, line, byte, sink)?;
+        take_byte(alloc, command, line, byte, sink)?;
     }
     Ok(())
 }
 
-/// Answers the line that has no end, unless it is empty. `Failed` where the sink's write fails.
-pub fn finish<K: Sink>(command: &Command, line: &LineBuffer, sink: &mut K) -> Result<(), Failed>
-    ensures { Writes result (K.text sink.old) (K.text sink.new) (K.faults sink.old) (K.faults sink.new) (last (report command.now) line.now) }
+/// Answers the line that has no end, unless it is empty. `WriteFault` where a write of the sink fails, and `NoMemory`
+/// where there is none.
+pub fn finish<K: Sink>(
+    alloc: Global,
+    command: &Command,
+    line: &LineBuffer,
+    sink: &mut K,
+) -> Result<(), Halt>
+    ensures { Answers (λ written. (written ≡ []) × (line.now ≢ Some []) × IsSomeAnd line.now (MayLackMemory command.now)) result
+        (K.text sink.old) (K.text sink.new) (K.faults sink.old) (K.faults sink.new) (last (report command.now) line.now) }
 {
     if line.is_empty() {
         return Ok(());
     }
-    answer(command, line, sink)
+    answer(alloc, command, line, sink)
 }

@@ -6,12 +6,14 @@ ghost use Rattle.arrayvec.specs.ArrayVec.{array_vec_len};
 ghost use Rattle.hex.specs.Hex.{encode_lower};
 ghost use Rattle.x86_opcode.specs.Name.{opcode_name};
 ghost use Rattle.x86_operand.specs.Meaning.{operand_meaning, memory};
+ghost use Rattle.vex_encode.specs.Sweep.{item_seen};
 ghost use Rattle.vex_tool.specs.ErrorLine.{error_line};
 ghost use Rattle.vex_tool.specs.ResultLine.{register_text, base_text, index_text, operand_text, operands_text, instruction_line};
+ghost use Rattle.vex_tool.specs.SweepLines.{item_line, end_line};
 
 use arrayvec::ArrayVec;
 use itoa::Buffer;
-use vex_encode::Spelling;
+use vex_encode::{Spelling, SweepEnd, SweepItem};
 use x86_operand::{Address, Index, Instruction, Opcode, Operand, RegSpec, RegisterBank};
 
 /// How many bytes a line of the output has, at most.
@@ -37,6 +39,16 @@ fn push_number(text: &mut LineText, number: u8)
 {
     let mut buffer = Buffer::new();
     push_all(text, buffer.format(number).as_bytes());
+}
+
+/// Appends a place in decimal.
+fn push_place(text: &mut LineText, place: usize)
+    requires { array_vec_len text.old + 20 ≤ MAX_TEXT }
+    ensures written { text.new.items ≡ text.old.items ++ decimal place }
+    ensures short { array_vec_len text.new ≤ array_vec_len text.old + 20 }
+{
+    let mut buffer = Buffer::new();
+    push_all(text, buffer.format(place).as_bytes());
 }
 
 /// Appends a signed number in decimal.
@@ -187,19 +199,56 @@ fn size_of(instruction: &Instruction) -> u8
     }
 }
 
+/// Appends the result line of an instruction and its canonical bytes, its line end included.
+fn push_instruction(text: &mut LineText, instruction: &Instruction, spelling: &Spelling)
+    requires { array_vec_len text.old + 172 ≤ MAX_TEXT }
+    ensures { text.new.items ≡ text.old.items ++ instruction_line instruction.now.len instruction.now.meaning spelling.now }
+{
+    push_number(text, instruction.len());
+    push_all(text, b" ");
+    push_name(text, instruction.opcode());
+    push_operands(text, instruction);
+    push_all(text, b" ");
+    push_number(text, size_of(instruction));
+    push_all(text, b" ");
+    push_hex(text, spelling.as_slice());
+    push_all(text, b"\n");
+}
+
 /// The result line of an instruction and its canonical bytes, its line end included.
 pub fn instruction_text(instruction: &Instruction, spelling: &Spelling) -> LineText
     ensures { result.items ≡ instruction_line instruction.now.len instruction.now.meaning spelling.now }
 {
     let mut text = LineText::new();
-    push_number(&mut text, instruction.len());
+    push_instruction(&mut text, instruction, spelling);
+    text
+}
+
+/// The line of an instruction of a sweep: its place, a space and its result line.
+pub fn item_text(item: &SweepItem<'_>) -> LineText
+    ensures { result.items ≡ item_line (item_seen item.now) }
+{
+    let mut text = LineText::new();
+    push_place(&mut text, item.place);
     push_all(&mut text, b" ");
-    push_name(&mut text, instruction.opcode());
-    push_operands(&mut text, instruction);
-    push_all(&mut text, b" ");
-    push_number(&mut text, size_of(instruction));
-    push_all(&mut text, b" ");
-    push_hex(&mut text, spelling.as_slice());
+    push_instruction(&mut text, &item.instruction, &item.spelling);
+    text
+}
+
+/// The line of the end of a sweep: `end`, or `stopped`, the place and the error's name.
+pub fn end_text(end: &SweepEnd) -> LineText
+    ensures { result.items ≡ end_line end.now }
+{
+    let mut text = LineText::new();
+    match end {
+        SweepEnd::End => push_all(&mut text, b"end"),
+        SweepEnd::Stopped { place, error } => {
+            push_all(&mut text, b"stopped ");
+            push_place(&mut text, *place);
+            push_all(&mut text, b" ");
+            push_all(&mut text, error.name().as_bytes());
+        }
+    }
     push_all(&mut text, b"\n");
     text
 }

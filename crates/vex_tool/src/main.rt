@@ -1,13 +1,13 @@
 //! The program: canonical bytes of VEX instructions, line by line.
 #![tactic(auto)]
 
-ghost use Rattle.std.specs.Prelude.{◌≡◌, ◌≢◌, ◌+◌, ◌<◌, ◌≤◌, ◌↔◌, ◌⊎◌, ◌∷◌, ◌++◌, true, length, take, [], Some, IfSome, IsSome, IsSomeAnd, IsNone, IsTrue, IsFalse, IsUtf8};
+ghost use Rattle.std.specs.Prelude.{◌≡◌, ◌+◌, ◌<◌, ◌≤◌, ◌↔◌, ◌⊎◌, ◌∷◌, ◌++◌, true, length, take, [], Some, IfSome, IsSome, IsSomeAnd, IsNone, IsTrue, IsFalse, IsUtf8};
 ghost use Rattle.std.specs.Bool.{OnTrue, OnFalse};
 ghost use Rattle.std.specs.Io.KnownBytes.{Appends};
 ghost use Rattle.vex_tool.specs.Command.{command};
 ghost use Rattle.vex_tool.specs.Ends.{RoseOrIsLast, RoseByMoreThan, IsQuiet, AppendsFront, WhereTaken};
 ghost use Rattle.vex_tool.specs.Lines.{whole};
-ghost use Rattle.vex_tool.specs.Report.{output};
+ghost use Rattle.vex_tool.specs.Report.{output, takes_memory, LackedMemory};
 ghost use Rattle.vex_tool.specs.Run.{input_limit};
 
 use command::Command;
@@ -24,6 +24,7 @@ mod command;
 #[cfg(test)]
 mod edge_tests;
 mod ends;
+mod halt;
 mod input;
 mod laws;
 mod line_buffer;
@@ -34,15 +35,17 @@ mod report;
 mod result_line;
 mod status;
 mod std_ends;
+mod sweep_lines;
 #[cfg(test)]
 mod tests;
 mod words;
 
 /// Runs the command that the words ask for, over all that the source has left.
 ///
-/// For each line of the input `recode P` writes one line. The status is `Usage` where the words are no
-/// command or one was refused. Else it is that of the first of these events: a read failed, a write
-/// failed, the source gave a byte after 2^26 bytes, or all is written and the input has ended.
+/// For each line of the input `recode P` writes one line, and `sweep P` one for each instruction and one for the end. The
+/// status is `Usage` where the words are no command or one was refused. Else it is that of the first of these events: a
+/// read failed, a write failed, there was no memory for the sweep of a line, the source gave a byte after 2^26 bytes, or
+/// all is written and the input has ended. Only `sweep P` takes memory.
 pub fn run<S: Source, K: Sink>(alloc: Global, words: &Words, source: &mut S, sink: &mut K) -> Status
     // `Usage` comes exactly where the words are no command or one was refused, and changes nothing.
     ensures usage { (result ≡ Status.Usage) ↔ (IsNone (command words.now.0) ⊎ IsTrue words.now.1) }
@@ -61,7 +64,7 @@ pub fn run<S: Source, K: Sink>(alloc: Global, words: &Words, source: &mut S, sin
     ensures too_long_by_number { S.given source.old + input_limit < S.given source.new → result ≡ Status.TooLong }
     ensures too_long_exactly { WhereTaken (S.left source.old) (S.left source.new) (λ taken.
         (result ≡ Status.TooLong) ↔ (input_limit < length taken)) }
-    ensures no_memory { result ≢ Status.NoMemory }
+    ensures no_memory { result ≡ Status.NoMemory → IfSome (command words.now.0) (λ c. IsTrue (takes_memory c)) }
 
     // What is written then, of the bytes that were taken.
     ensures after_read_fault { result ≡ Status.ReadFault → IfSome (command words.now.0) (λ c.
@@ -73,20 +76,29 @@ pub fn run<S: Source, K: Sink>(alloc: Global, words: &Words, source: &mut S, sin
     ensures after_too_long { result ≡ Status.TooLong → IfSome (command words.now.0) (λ c.
         WhereTaken (S.left source.old) (S.left source.new) (λ taken.
         Appends (K.text sink.old) (K.text sink.new) (output c (whole (take input_limit taken))))) }
+    ensures after_no_memory { result ≡ Status.NoMemory → IfSome (command words.now.0) (λ c.
+        WhereTaken (S.left source.old) (S.left source.new) (λ taken. LackedMemory c taken (K.text sink.old) (K.text sink.new))) }
 
-    // A command over ends that do not fail, with at most 2^26 bytes of input, ends with `Done`.
-    ensures completes { IsSome (command words.now.0) → IsFalse words.now.1
+    // A command over ends that do not fail, with at most 2^26 bytes of input, ends with `Done`, or with `NoMemory` where it
+    // takes memory.
+    ensures completes_or_lacks { IsSome (command words.now.0) → IsFalse words.now.1
+        → IsQuiet (S.faults source.old) (S.faults source.new) → IsQuiet (K.faults sink.old) (K.faults sink.new)
+        → IsSomeAnd (S.left source.old) (λ input. length input ≤ input_limit) → (result ≡ Status.Done) ⊎ (result ≡ Status.NoMemory) }
+    ensures completes { IsSomeAnd (command words.now.0) (λ c. IsFalse (takes_memory c)) → IsFalse words.now.1
         → IsQuiet (S.faults source.old) (S.faults source.new) → IsQuiet (K.faults sink.old) (K.faults sink.new)
         → IsSomeAnd (S.left source.old) (λ input. length input ≤ input_limit) → result ≡ Status.Done }
-    ensures completes_by_number { IsSome (command words.now.0) → IsFalse words.now.1
+    ensures completes_by_number { IsSomeAnd (command words.now.0) (λ c. IsFalse (takes_memory c)) → IsFalse words.now.1
         → IsQuiet (S.faults source.old) (S.faults source.new) → IsQuiet (K.faults sink.old) (K.faults sink.new)
         → (RoseByMoreThan input_limit (S.given source.old) (S.given source.new) → ⊥) → result ≡ Status.Done }
+    ensures completes_or_lacks_by_number { IsSome (command words.now.0) → IsFalse words.now.1
+        → IsQuiet (S.faults source.old) (S.faults source.new) → IsQuiet (K.faults sink.old) (K.faults sink.new)
+        → (RoseByMoreThan input_limit (S.given source.old) (S.given source.new) → ⊥) → (result ≡ Status.Done) ⊎ (result ≡ Status.NoMemory) }
 {
     if words.over() {
         return Status::Usage;
     }
     match Command::of(words) {
-        Some(command) => answer_input(&command, source, sink),
+        Some(command) => answer_input(alloc, &command, source, sink),
         None => Status::Usage,
     }
 }

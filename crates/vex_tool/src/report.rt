@@ -1,15 +1,18 @@
 //! What is written for a line.
 
-ghost use Rattle.std.specs.Prelude.{◌≡◌, ◌≤◌, ◌/◌, length, Ok, Err, MatchResult};
-ghost use Rattle.vex_tool.specs.Ends.{Writes};
+ghost use Rattle.std.specs.Prelude.{◌≡◌, ◌≤◌, ◌/◌, [], length, Ok, Err, IsTrue, MatchResult};
+ghost use Rattle.vex_tool.specs.Ends.{Answers, Writes};
 ghost use Rattle.vex_tool.specs.ErrorLine.{error_line};
-ghost use Rattle.vex_tool.specs.Report.{report, code, code_report, digits, is_blank, line_error_name};
+ghost use Rattle.vex_tool.specs.Report.{report, code, code_report, digits, is_blank, line_error_name, takes_memory, MayLackMemory};
 
 use crate::command::Command;
 use crate::ends::{Failed, Sink};
+use crate::halt::Halt;
 use crate::line_text::error_text;
 use crate::result_line::write_result_line;
+use crate::sweep_lines::write_sweep;
 use arrayvec::ArrayVec;
+use std::alloc::Global;
 
 /// How many bytes a line has, at most.
 pub const MAX_LINE: usize = 8192;
@@ -80,22 +83,42 @@ pub fn write_error<K: Sink>(error: LineError, sink: &mut K) -> Result<(), Failed
 }
 
 // Writes the report of a line that writes these bytes.
-fn write_code_report<K: Sink>(command: &Command, bytes: &[u8], sink: &mut K) -> Result<(), Failed>
-    ensures { Writes result (K.text sink.old) (K.text sink.new) (K.faults sink.old) (K.faults sink.new) (code_report command.now (Ok bytes.now)) }
+fn write_code_report<K: Sink>(
+    alloc: Global,
+    command: &Command,
+    bytes: &[u8],
+    sink: &mut K,
+) -> Result<(), Halt>
+    ensures { Answers (λ written. (written ≡ []) × IsTrue (takes_memory command.now)) result
+        (K.text sink.old) (K.text sink.new) (K.faults sink.old) (K.faults sink.new) (code_report command.now (Ok bytes.now)) }
 {
     match command {
-        Command::Recode(settings) => write_result_line(settings, bytes, sink),
+        Command::Recode(settings) => {
+            write_result_line(settings, bytes, sink)?;
+            Ok(())
+        }
+        Command::Sweep(settings) => write_sweep(alloc, settings, bytes, sink),
     }
 }
 
-/// Writes the report of a line. `Failed` where the sink's write fails.
+/// Writes the report of a line. `WriteFault` where a write of the sink fails, and `NoMemory` where there is none, and
+/// then nothing is written.
 #[tactic(auto, unfolding(crate::specs::Report::report))]
-pub fn write_report<K: Sink>(command: &Command, line: &[u8], sink: &mut K) -> Result<(), Failed>
+pub fn write_report<K: Sink>(
+    alloc: Global,
+    command: &Command,
+    line: &[u8],
+    sink: &mut K,
+) -> Result<(), Halt>
     requires { length line.now ≤ MAX_LINE }
-    ensures { Writes result (K.text sink.old) (K.text sink.new) (K.faults sink.old) (K.faults sink.new) (report command.now line.now) }
+    ensures { Answers (λ written. (written ≡ []) × MayLackMemory command.now line.now) result
+        (K.text sink.old) (K.text sink.new) (K.faults sink.old) (K.faults sink.new) (report command.now line.now) }
 {
     match bytes_of_line(line) {
-        Ok(bytes) => write_code_report(command, bytes.as_slice(), sink),
-        Err(error) => write_error(error, sink),
+        Ok(bytes) => write_code_report(alloc, command, bytes.as_slice(), sink),
+        Err(error) => {
+            write_error(error, sink)?;
+            Ok(())
+        }
     }
 }

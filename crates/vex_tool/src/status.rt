@@ -14,7 +14,7 @@ pub enum Status {
     Usage,
     /// A write failed.
     WriteFault,
-    /// There was no memory. `run` never answers it.
+    /// There was no memory for the sweep of a line.
     NoMemory,
     /// The input has more than 2^26 bytes.
     TooLong,

@@ -198,10 +198,12 @@ fn the_limit_is_two_to_the_26(rt: HostRuntime) {
 #[test]
 fn words_that_are_no_command(rt: HostRuntime) {
     let long = "xxxxxxxxxxxxxxxxxxxxxxxxxxxxxxxxxxxxxxxxxxxxxxxxxxxxxxxxxxxxxxxxx";
-    let lists: [&[&str]; 8] = [
+    let lists: [&[&str]; 10] = [
         &[],
         &["recode"],
         &["recode", "zen6"],
+        &["sweep"],
+        &["sweep", "zen6"],
         &["Recode", "default"],
         &["recode", "Default"],
         &["recode", "default", ""],
@@ -305,4 +307,22 @@ fn a_writer_of_std_gets_the_text_up_to_its_fault(rt: HostRuntime) -> Result<(), 
         b"3 VZEROUPPER 0 c5f877\nerror BadHex\nerror".as_slice()
     );
     Ok(())
+}
+
+#[test]
+fn a_sweep_writes_each_instruction_and_how_it_ends(rt: HostRuntime) {
+    let input = b"C5 F8 77 C5 F4 58 C2 33\n\nc5f\nC4C17828C0\nC5F877C5".as_slice();
+    let text = b"0 3 VZEROUPPER 0 c5f877\n3 4 VADDPS y0 y1 y2 0 c5f458c2\nstopped 7 Outside\n\
+        end\n\
+        error BadHex\n\
+        0 5 VMOVAPS x0 x8 0 c57829c0\nend\n\
+        0 3 VZEROUPPER 0 c5f877\nstopped 3 ExhaustedInput\n"
+        .as_slice();
+    let mut source = MemSource::new(input, 7, &[]);
+    let mut room = [0u8; 400];
+    let mut sink = MemSink::new(&mut room, &[]);
+    let words = words_of(&["sweep", "default"]);
+    let status = run(rt.alloc(), &words, &mut source, &mut sink);
+    assert_eq!(rt; status.code(), 0);
+    assert_eq!(rt; sink.written(), text);
 }

@@ -1,5 +1,5 @@
 use Rattle.std.proofs.Common.{sym}
-use Rattle.vex_tool.proofs.RunClauses.{IfSome-at, done_written, too_long, too_long_by_number, too_long_exactly, after_read_fault, after_write_fault, after_too_long, completes, completes_by_number}
+use Rattle.vex_tool.proofs.RunClauses.{IfSome-at, IsSomeAnd-at, done_written, too_long, too_long_by_number, too_long_exactly, no_memory, after_read_fault, after_write_fault, after_too_long, after_no_memory, done_unless, completes_or_lacks, completes_or_lacks_by_number}
 use Rattle.vex_tool.proofs.run.Goals as goal
 
 pub returns-in-Some-clause-done_written : goal.returns-in-Some-clause-done_written
@@ -27,8 +27,26 @@ pub returns-in-Some-clause-after_too_long : goal.returns-in-Some-clause-after_to
 returns-in-Some-clause-after_too_long g c = λ e.
     IfSome-at _ _ _ (sym c.in-Some.ensures) (after_too_long _ _ _ _ c.answer_input.ensures e)
 
+pub returns-in-Some-clause-no_memory : goal.returns-in-Some-clause-no_memory
+returns-in-Some-clause-no_memory g c = λ e. IfSome-at _ _ _ (sym c.in-Some.ensures) (no_memory _ _ _ _ c.answer_input.ensures e)
+
+pub returns-in-Some-clause-after_no_memory : goal.returns-in-Some-clause-after_no_memory
+returns-in-Some-clause-after_no_memory g c = λ e.
+    IfSome-at _ _ _ (sym c.in-Some.ensures) (after_no_memory _ _ _ _ c.answer_input.ensures e)
+
+pub returns-in-Some-clause-completes_or_lacks : goal.returns-in-Some-clause-completes_or_lacks
+returns-in-Some-clause-completes_or_lacks g c = λ _ _ source sink within. completes_or_lacks _ _ _ _ c.answer_input.ensures source sink within
+
+pub returns-in-Some-clause-completes_or_lacks_by_number : goal.returns-in-Some-clause-completes_or_lacks_by_number
+returns-in-Some-clause-completes_or_lacks_by_number g c = λ _ _ source sink within.
+    completes_or_lacks_by_number _ _ _ _ c.answer_input.ensures source sink within
+
 pub returns-in-Some-clause-completes : goal.returns-in-Some-clause-completes
-returns-in-Some-clause-completes g c = λ _ _ source sink within. completes _ _ _ _ c.answer_input.ensures source sink within
+returns-in-Some-clause-completes g c = λ takes_none _ source sink within.
+    done_unless _ _ _ _ c.answer_input.ensures (IsSomeAnd-at _ _ _ (sym c.in-Some.ensures) takes_none)
+    (completes_or_lacks _ _ _ _ c.answer_input.ensures source sink within)
 
 pub returns-in-Some-clause-completes_by_number : goal.returns-in-Some-clause-completes_by_number
-returns-in-Some-clause-completes_by_number g c = λ _ _ source sink within. completes_by_number _ _ _ _ c.answer_input.ensures source sink within
+returns-in-Some-clause-completes_by_number g c = λ takes_none _ source sink within.
+    done_unless _ _ _ _ c.answer_input.ensures (IsSomeAnd-at _ _ _ (sym c.in-Some.ensures) takes_none)
+    (completes_or_lacks_by_number _ _ _ _ c.answer_input.ensures source sink within)

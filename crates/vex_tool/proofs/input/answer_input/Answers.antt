@@ -1,7 +1,8 @@
 use Rattle.std.proofs.Common.{◌≡◌, ◌≤◌, length, length-take, arith}
 use Rattle.std.proofs.lemmas.List.{length-take-le}
+use Rattle.vex_tool.specs.Report.{MayLackMemory}
 use Rattle.vex_tool.proofs.ReportLemmas.{SameForLong-report}
-use Rattle.vex_tool.proofs.RunLemmas.{Going-first, Going-step, Gave-read, Gave-none, Ran-read_fault, Ran-done, Ran-finish_fault, Ran-too_long, Ran-feed_fault}
+use Rattle.vex_tool.proofs.RunLemmas.{Going-first, Going-step, Gave-read, Gave-none, Ran-read_fault, Ran-done, Ran-finish_halted, Ran-too_long, Ran-feed_halted}
 use Rattle.vex_tool.proofs.input.answer_input.Goals as goal
 
 pub loop-line-init : goal.loop-line-init
@@ -10,14 +11,14 @@ loop-line-init g c = rw c.new-line.ensures (Going-first _ _)
 pub returns-in-Err : goal.returns-in-Err
 returns-in-Err g c =
     let read = c.in-Err.ensures in
-    Ran-read_fault _ _ _ _ _ c.loop-line.invariant (SameForLong-report _) _ _ _ read.keeps read.keeps_number read.cause
+    Ran-read_fault _ _ _ _ _ _ c.loop-line.invariant (SameForLong-report _) _ _ _ read.keeps read.keeps_number read.cause
 
 pub returns-in-Ok-finish : goal.returns-in-Ok-finish
 returns-in-Ok-finish g c =
     let read = c.in-Ok-eq0.ensures in
     let none = c.in-Ok-eq0.field-0-test in
     let written = c.in-Ok-finish.ensures in
-    Ran-done _ _ _ _ _ c.loop-line.invariant (SameForLong-report _) _ _ _
+    Ran-done _ _ _ _ _ _ c.loop-line.invariant (SameForLong-report _) _ _ _
     (Gave-none _ _ _ _ _ c.read.new.into none read.takes read.counts read.quiet)
     (read.end cc) written.appends written.quiet
 
@@ -25,10 +26,10 @@ pub returns-in-Err-finish : goal.returns-in-Err-finish
 returns-in-Err-finish g c =
     let read = c.in-Ok-eq0.ensures in
     let none = c.in-Ok-eq0.field-0-test in
-    let written = c.in-Err-finish.ensures in
-    Ran-finish_fault _ _ _ _ _ c.loop-line.invariant (SameForLong-report _) _ _ _
+    rw c.status.ensures
+    (Ran-finish_halted _ _ _ _ _ _ c.loop-line.invariant (SameForLong-report _) _ _ _ _
     (Gave-none _ _ _ _ _ c.read.new.into none read.takes read.counts read.quiet)
-    written.front written.cause
+    c.in-Err-finish.ensures)
 
 pub returns-in-Ok : goal.returns-in-Ok
 returns-in-Ok g c =
@@ -38,7 +39,7 @@ returns-in-Ok g c =
     let asked = length-take c.wanted.result c.loop-line.buffer in
     let fits : n ≤ length c.read.new.into = omega arith in
     let one : n ≡ 1 = omega (arith, c.wanted.ensures.at_limit c.if-room-eq0.true) in
-    Ran-too_long _ _ _ _ _ c.loop-line.invariant (SameForLong-report _) _ _
+    Ran-too_long _ _ _ _ _ _ c.loop-line.invariant (SameForLong-report _) _ _
     (Gave-read _ _ _ _ _ c.read.new.into fits read.takes read.counts read.quiet)
     c.if-room-eq0.true (rw (length-take-le n c.read.new.into fits) one)
 
@@ -50,10 +51,10 @@ returns-in-Err-feed g c =
     let asked = length-take c.wanted.result c.loop-line.buffer in
     let fits : n ≤ length c.read.new.into = omega arith in
     let within : n ≤ c.loop-line.room = omega (arith, c.wanted.ensures.to_limit (omega arith)) in
-    let written = c.in-Err-feed.ensures.written in
-    Ran-feed_fault _ _ _ _ _ c.loop-line.invariant (SameForLong-report _) _ _ _ _
+    rw c.status-in-Err-feed.ensures
+    (Ran-feed_halted _ _ _ _ _ _ c.loop-line.invariant (SameForLong-report _) _ _ _ _ _
     (Gave-read _ _ _ _ _ c.read.new.into fits read.takes read.counts read.quiet)
-    (rw (length-take-le n c.read.new.into fits) within) written.front written.cause
+    (rw (length-take-le n c.read.new.into fits) within) c.in-Err-feed.ensures.written)
 
 pub loop-line-preserved : goal.loop-line-preserved
 loop-line-preserved g c =
@@ -66,6 +67,6 @@ loop-line-preserved g c =
     let within : n ≤ c.loop-line.room = omega (arith, c.wanted.ensures.to_limit (omega arith)) in
     let fed = c.in_default.ensures in
     rw len at
-    (Going-step _ _ _ _ _ c.loop-line.invariant _ _ _ _ _
+    (Going-step _ _ (MayLackMemory c.args.command.now) _ _ _ c.loop-line.invariant _ _ _ _ _
     (Gave-read _ _ _ _ _ c.read.new.into fits read.takes read.counts read.quiet)
     (omega arith) (rw len within) fed.kept fed.written.appends fed.written.quiet)

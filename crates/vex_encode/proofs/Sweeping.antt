@@ -1,0 +1,144 @@
+-- A sweep, instruction by instruction.
+use Rattle.std.proofs.Common.{◌≡◌, ℕ, zero, suc, ◌+◌, ◌-◌, ◌<◌, ◌≤◌, Bool, List, [], ◌∷◌, ◌++◌, length, take, drop, get_or, Some, None, Result, Ok, Err, refl, sym, ap, ◌∙◌, subst, arith, add-zero, append_assoc, take-append-drop, zero-add}
+use Rattle.std.specs.Prelude.{All, flat_map, unwrap_or}
+use Rattle.std.proofs.lemmas.List.{append-nil, drop-drop, drop_all, length-append, length-drop, length-take-le, take_all}
+use Rattle.std.proofs.lemmas.List.Elements.{All-nil, All-push}
+use Rattle.std.proofs.lemmas.Grind.{flat_map-append}
+use Rattle.std.proofs.Math.Seq.{take-add}
+use Rattle.x86_operand.specs.declared.error.DecodeError.{DecodeError}
+use Rattle.x86_operand.specs.Meaning.{Decoded, Meaning}
+use Rattle.x86_address.specs.Bytes.{Begins, IsBytes}
+use Rattle.vex_forms.specs.FormWalk.{taken}
+use Rattle.vex_decode.specs.Spelling.{Spells, meant}
+use Rattle.vex_decode.specs.Walk.{walk}
+use Rattle.vex_decode.specs.Blocked.{blocked}
+use Rattle.vex_decode.specs.Laws.{ReadingIsSpelling}
+use Rattle.vex_encode.specs.Canon.{canon}
+use Rattle.vex_encode.specs.declared.sweeper.SweepEnd.TheVariants.{End, Stopped}
+use Rattle.vex_encode.specs.Sweep.{AreInPlace, EndsAfter, IsPermitted, Swept, SweptItem, decoded_by, decoded_unless, first_of_bytes, item_at, joined, onto, swept, swept_by, swept_from}
+
+-- ---- one instruction after another
+
+-- bytes that are passed over
+from-skip : (settings : List Bool) (k place : ℕ) (bytes : List ℕ) → k ≤ length bytes
+    → swept_from settings k place bytes ≡ swept_from settings 0 (place + k) (drop k bytes)
+unfolding swept_from
+from-skip settings zero place bytes within = ap (λ p. swept_from settings 0 p bytes) (sym (add-zero place))
+from-skip settings (suc k) place [] within = absurd (omega arith)
+from-skip settings (suc k) place (b ∷ bs) within =
+    let at : place + 1 + k ≡ place + suc k = omega arith in
+    from-skip settings k (place + 1) bs (omega arith) ∙ ap (λ p. swept_from settings 0 p (drop k bs)) at
+
+-- an instruction, and the sweep of what follows it
+from-step : (settings : List Bool) (place : ℕ) (bytes : List ℕ) (decoded : Decoded) → first_of_bytes settings bytes ≡ Ok decoded
+    → 1 ≤ decoded.len → decoded.len ≤ length bytes
+    → swept_from settings 0 place bytes ≡ onto (item_at place bytes decoded) (swept_from settings 0 (place + decoded.len) (drop decoded.len bytes))
+unfolding swept_from
+from-step settings place [] decoded first some within = absurd (omega arith)
+from-step settings place (b ∷ bs) decoded first some within =
+    let n = decoded.len in
+    let more : n ≡ suc (n - 1) = omega arith in
+    let at : place + 1 + (n - 1) ≡ place + n = omega arith in
+    ap (swept_by place (b ∷ bs) (λ decoded. swept_from settings (decoded.len - 1) (place + 1) bs)) first
+    ∙ ap (onto (item_at place (b ∷ bs) decoded))
+    (from-skip settings (n - 1) (place + 1) bs (omega arith)
+    ∙ ap (λ p. swept_from settings 0 p (drop (n - 1) bs)) at
+    ∙ ap (λ k. swept_from settings 0 (place + n) (drop k (b ∷ bs))) (sym more))
+
+-- an error
+from-stop : (settings : List Bool) (place : ℕ) (bytes : List ℕ) (error : DecodeError) → first_of_bytes settings bytes ≡ Err error → 0 < length bytes
+    → swept_from settings 0 place bytes ≡ record { items = []; end = Stopped place error }
+unfolding swept_from
+from-stop settings place [] error first some = absurd (omega arith)
+from-stop settings place (b ∷ bs) error first some = ap (swept_by place (b ∷ bs) (λ decoded. swept_from settings (decoded.len - 1) (place + 1) bs)) first
+
+-- ---- the items so far
+
+joined-push : (items : List SweptItem) (item : SweptItem) → joined (items ++ item ∷ []) ≡ joined items ++ item.bytes
+joined-push items item = flat_map-append (λ (i : SweptItem). i.bytes) items (item ∷ []) ∙ ap (λ t. joined items ++ t) (append-nil item.bytes)
+
+in_place-push : (place : ℕ) (items : List SweptItem) (item : SweptItem) → AreInPlace place items → item.place ≡ place + length (joined items)
+    → AreInPlace place (items ++ item ∷ [])
+in_place-push place [] item are is = (is ∙ add-zero place, tt)
+in_place-push place (first ∷ items) item are is =
+    (are.0, in_place-push (place + length first.bytes) items item are.1 (omega (arith, is, length-append first.bytes (joined items))))
+
+-- the items, and then a sweep
+pub after : List SweptItem → Swept → Swept
+after items swept = record { items = items ++ swept.items; end = swept.end }
+
+after-push : (items : List SweptItem) (item : SweptItem) (swept : Swept) → after items (onto item swept) ≡ after (items ++ item ∷ []) swept
+unfolding after
+after-push items item swept = ap (λ (is : List SweptItem). record { items = is; end = swept.end }) (sym (append_assoc items (item ∷ []) swept.items))
+
+-- the bytes before a place were swept, and these are their items
+pub record Sweeping (settings : List Bool) (bytes : List ℕ) (items : List SweptItem) (place : ℕ) : Type 0 where
+  pub within : place ≤ length bytes
+  pub front : joined items ≡ take place bytes
+  pub same : swept settings bytes ≡ after items (swept_from settings 0 place (drop place bytes))
+  pub permitted : All (IsPermitted settings) items
+  pub in_place : AreInPlace 0 items
+
+module _ (settings : List Bool) (bytes : List ℕ) where
+  pub Sweeping-first : Sweeping settings bytes [] 0
+  unfolding after
+  Sweeping-first = record { within = omega arith; front = refl; same = refl; permitted = All-nil (IsPermitted settings); in_place = tt }
+
+  module _ (items : List SweptItem) (place : ℕ) (so_far : Sweeping settings bytes items place) where
+    -- the number of bytes that were read
+    length-front : length (joined items) ≡ place
+    length-front = omega (arith, so_far.within, ap length so_far.front, length-take-le place bytes so_far.within)
+
+    pub Sweeping-step : (item : SweptItem) (decoded : Decoded) → item ≡ item_at place (drop place bytes) decoded
+        → first_of_bytes settings (drop place bytes) ≡ Ok decoded → 1 ≤ decoded.len → decoded.len ≤ length (drop place bytes)
+        → IsPermitted settings item → Sweeping settings bytes (items ++ item ∷ []) (place + length item.bytes)
+    Sweeping-step item decoded is first some fits permitted =
+        let n = decoded.len in
+        let left = length-drop place bytes in
+        let long : length item.bytes ≡ n = ap (λ (i : SweptItem). length i.bytes) is ∙ length-take-le n (drop place bytes) fits in
+        let step = from-step settings place (drop place bytes) decoded first some fits in
+        record {
+          within = omega (arith, long, fits, left, so_far.within);
+          front =
+              joined-push items item
+              ∙ ap (λ t. t ++ item.bytes) so_far.front
+              ∙ ap (λ (i : SweptItem). take place bytes ++ i.bytes) is
+              ∙ sym (take-add place n bytes)
+              ∙ ap (λ k. take (place + k) bytes) (sym long);
+          same =
+              so_far.same
+              ∙ ap (after items) step
+              ∙ after-push items (item_at place (drop place bytes) decoded) _
+              ∙ ap (λ (i : SweptItem). after (items ++ i ∷ []) (swept_from settings 0 (place + n) (drop n (drop place bytes)))) (sym is)
+              ∙ ap (λ rest. after (items ++ item ∷ []) (swept_from settings 0 (place + n) rest)) (drop-drop n place bytes)
+              ∙ ap (λ k. after (items ++ item ∷ []) (swept_from settings 0 (place + k) (drop (place + k) bytes))) (sym long);
+          permitted = All-push (IsPermitted settings) items item so_far.permitted permitted;
+          in_place = in_place-push 0 items item so_far.in_place (ap (λ (i : SweptItem). i.place) is ∙ sym length-front ∙ sym (zero-add (length (joined items))));
+        }
+
+    -- ---- how it ends
+
+    pub front-read : Begins (joined items) bytes
+    front-read = (drop place bytes, sym (take-append-drop place bytes) ∙ ap (λ t. t ++ drop place bytes) (sym so_far.front))
+
+    pub Sweeping-end : length bytes ≤ place → (swept settings bytes ≡ record { items = items; end = End }) × EndsAfter settings (joined items) bytes End
+    unfolding after swept_from
+    Sweeping-end all =
+        let none = drop_all place bytes all in (
+          so_far.same
+              ∙ ap (λ rest. after items (swept_from settings 0 place rest)) none
+              ∙ ap (λ (is : List SweptItem). record { items = is; end = End }) (append-nil items),
+          sym (so_far.front ∙ take_all place bytes all),
+        )
+
+    pub Sweeping-stop : (error : DecodeError) → place < length bytes → first_of_bytes settings (drop place bytes) ≡ Err error
+        → swept settings bytes ≡ record { items = items; end = Stopped place error }
+    unfolding after
+    Sweeping-stop error some first =
+        so_far.same
+        ∙ ap (after items) (from-stop settings place (drop place bytes) error first (omega (arith, some, length-drop place bytes)))
+        ∙ ap (λ (is : List SweptItem). record { items = is; end = Stopped place error }) (append-nil items)
+
+    pub stopped : (error : DecodeError) (n : ℕ) → place < length bytes → blocked settings (drop place bytes) ≡ Some (error, n)
+        → EndsAfter settings (joined items) bytes (Stopped place error)
+    stopped error n some is = (sym length-front, some, (n, is))

@@ -1,0 +1,44 @@
+//! The lines of a sweep.
+
+ghost use Rattle.std.specs.Prelude.{◌≡◌, [], flat_map};
+ghost use Rattle.vex_encode.specs.Sweep.{swept};
+ghost use Rattle.vex_tool.specs.Ends.{Answers, Writes};
+ghost use Rattle.vex_tool.specs.SweepLines.{item_line, sweep_lines};
+
+use crate::ends::{Failed, Sink};
+use crate::halt::Halt;
+use crate::line_text::{end_text, item_text};
+use std::alloc::Global;
+use vex_encode::{Items, NoMemory, sweep};
+use x86_settings::InstDecoder;
+
+// Writes a line for each item, in one write each.
+fn write_items<K: Sink>(items: &Items<'_>, sink: &mut K) -> Result<(), Failed>
+    ensures { Writes result (K.text sink.old) (K.text sink.new) (K.faults sink.old) (K.faults sink.new) (flat_map item_line items.now) }
+{
+    let list = items.as_slice();
+    for item in list {
+        sink.write_all(item_text(item).as_slice())?;
+    }
+    Ok(())
+}
+
+/// Sweeps these bytes under settings, and writes a line for each instruction and one for the end, in one write each. Nothing is
+/// written where there is no memory.
+pub fn write_sweep<K: Sink>(
+    alloc: Global,
+    settings: &InstDecoder,
+    bytes: &[u8],
+    sink: &mut K,
+) -> Result<(), Halt>
+    ensures { Answers (λ written. written ≡ []) result (K.text sink.old) (K.text sink.new) (K.faults sink.old) (K.faults sink.new)
+        (sweep_lines (swept settings.now bytes.now)) }
+{
+    let swept = match sweep(alloc, settings, bytes) {
+        Ok(swept) => swept,
+        Err(NoMemory) => return Err(Halt::NoMemory),
+    };
+    write_items(&swept.items, sink)?;
+    sink.write_all(end_text(&swept.end).as_slice())?;
+    Ok(())
+}
