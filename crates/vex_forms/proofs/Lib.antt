@@ -4,3 +4,5 @@ pub mod Choosing
 pub mod Fit
 mod Mapped
 mod MeaningGiven
+pub mod Operating
+pub mod Instructing

@@ -6,3 +6,4 @@ pub mod Laws
 pub mod Fields
 pub mod FormWalk
 pub mod Operands
+pub mod Reads

@@ -196,7 +196,9 @@ impl Choice {
         let steps = steps_of(self.entry.form);
         if names_vvvv(self.slots().as_slice()) {
             VvvvRule::Named
-        } else if self.any_demands_zero(steps.before_modrm) || self.any_demands_zero(steps.after_address) {
+        } else if self.any_demands_zero(steps.before_modrm)
+            || self.any_demands_zero(steps.after_address)
+        {
             VvvvRule::Zero
         } else {
             VvvvRule::Free

@@ -1,12 +1,14 @@
 //! The operand forms: which slot names which operand, and how large the memory operand is.
 #![tactic(auto)]
 
+mod checks;
 mod choice;
 mod instruction;
 pub mod laws;
 mod operand_e;
 mod operand_fields;
 mod operands;
+mod reading;
 mod row_layout;
 mod sizes;
 mod slot;
@@ -15,6 +17,7 @@ mod slots;
 pub use instruction::instruction_of;
 pub use operand_e::OperandE;
 pub use operand_fields::OperandFields;
+pub use reading::read_form;
 pub use row_layout::{RowLayout, layout};
 pub use slot::{Slot, VvvvRule};
 

@@ -78,6 +78,15 @@ follows_as {A} {B} {step} {other} {IsSo} {Wider} result same wider follows = rec
     by (Ok answer) answers = (answers.0, wider answers.0 answer answers.1, λ rest. same (follows.bytes ++ rest) ∙ answers.2 rest)
     by (Err error) answers = λ rest none. same (follows.bytes ++ rest) ∙ answers rest none
 
+-- an answer that is turned into another, which is so of the value that the step answers
+pub follows_answered : {A B C : Type 0} {step : List ℕ → Reading A} {IsSo : A → B → Type 0} {Wider : A → C → Type 0} {old new : ReaderState} {answer : B} {turned : C} → (f : Follows step IsSo old new (Ok answer)) → Wider f.answers.0 turned → Follows step Wider old new (Ok turned)
+follows_answered f so = record {
+  bytes = f.bytes;
+  passes = f.passes;
+  counts = f.counts;
+  answers = (f.answers.0, so, f.answers.2);
+}
+
 -- a value that is turned into one more
 pub follows_map : {A B C : Type 0} {step : List ℕ → Reading A} (f : A → C) {IsSo : A → B → Type 0} {Wider : C → B → Type 0} {old new : ReaderState} (result : Result B DecodeError) → ((value : A) (answer : B) → IsSo value answer → Wider (f value) answer) → Follows step IsSo old new result → Follows (λ bytes. step bytes >>= (λ read. Ok (f read.0, read.1))) Wider old new result
 follows_map {A} {B} {C} {step} f {IsSo} {Wider} result wider follows = record {

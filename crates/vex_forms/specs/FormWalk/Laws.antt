@@ -1,0 +1,228 @@
+-- Lemmas on the walk of a form, and that no contract cites: what has passed where it answers, and that the row that it
+-- chooses is a row.
+use Rattle.std.specs.Prelude.{◌≡◌, refl, ◌⊎◌, ℕ, ◌/◌, ◌%◌, Bool, true, false, not, ◌&&◌, ◌||◌, ◌==◌, List, [], ◌∷◌, ◌++◌, Option, Some, None, Ok, Err, if◌then◌else◌}
+use Rattle.std.specs.List.{list_all, list_any}
+use Rattle.std.proofs.Common.{ap, sym, ◌∙◌, inl, inr, subst}
+use Rattle.std.proofs.lemmas.Bool.{eqb-true}
+use Rattle.x86_opcode.specs.declared.Opcode.{Opcode}
+use Rattle.x86_operand.specs.Kind.{Kind, WithoutModRM, InRegister, InMemory}
+use Rattle.x86_address.specs.Place.{Place, NoPlace, Direct, Based, RipBased, Scaled, Baseless, kind_of}
+use Rattle.x86_address.specs.Reading.{Reading, ◌>>=◌, take_byte, take_doubleword, take_displacement, take_baseless, take_scaled, take_sib, take_place}
+use Rattle.vex_rows.specs.declared.entry.Entry.{Entry}
+use Rattle.vex_rows.specs.declared.form.Form.{Form}
+use Rattle.vex_rows.specs.declared.steps.Check.{Check}
+use Rattle.vex_rows.specs.declared.steps.Check.TheVariants.{V0, L0, Reg, Mem, Group, VifMem}
+use Rattle.vex_rows.specs.Rules.{allows}
+use Rattle.vex_rows.specs.Steps.{FormSteps, steps}
+use Rattle.vex_rows.specs.Groups.{groups}
+use Rattle.vex_rows.specs.Row.{Row, Among, kinds_of, has_groups, is_group, is_register, group_allowed, permits_choice, exists}
+use Rattle.vex_rows.specs.Tests.{is_orderly, is_prefix_check, is_modrm_check, is_late_check, is_register_check, is_none}
+use Rattle.vex_rows.proofs.Lists.{both-parts, parts-both, from-list_all, list_all-each, among-append}
+use Rattle.vex_rows.proofs.Rows.{checks_of}
+use Rattle.vex_rows.proofs.Forms.{orderly}
+use Rattle.vex_forms.specs.Fields.{Fields}
+use Rattle.vex_forms.specs.FormWalk.{passes, refusal, check_all, kind_of_mod, take_imm, Operands, place_by, walk_modrm, walk_alone, walk_form, row_of}
+
+-- ---- what a walk has passed
+
+-- where one step after another answers, both do
+then_ok : {A B : Type 0} (reading : Reading A) (next : A × List ℕ → Reading B) (answer : B × List ℕ) → (reading >>= next) ≡ Ok answer → (read : A × List ℕ) × (reading ≡ Ok read) × (next read ≡ Ok answer)
+then_ok (Ok read) next answer e = (read, refl, e)
+then_ok (Err error) next answer e = cc
+
+same_answer : {A : Type 0} {x y : A × List ℕ} → ◌≡◌ {A = Reading A} (Ok x) (Ok y) → x ≡ y
+same_answer e = cc
+
+-- where the checks answer, all have passed
+check_all-passed : (entry : Entry) (f : Fields) (kind : Kind) (reg : ℕ) (checks : List Check) (bytes : List ℕ) (answer : Unit {0} × List ℕ) → check_all entry f kind reg checks bytes ≡ Ok answer → list_all (passes entry f kind reg) checks ≡ true
+check_all-passed entry f kind reg [] bytes answer e = refl
+check_all-passed entry f kind reg (c ∷ checks) bytes answer e = by (passes entry f kind reg c) e (check_all-passed entry f kind reg checks bytes answer) where
+  by : (b : Bool) → (if b then check_all entry f kind reg checks bytes else Err (refusal c, bytes)) ≡ Ok answer → (check_all entry f kind reg checks bytes ≡ Ok answer → list_all (passes entry f kind reg) checks ≡ true) → (b && list_all (passes entry f kind reg) checks) ≡ true
+  by true e next = next e
+  by false e next = cc
+
+-- the place that was read has this kind
+abbrev Has : Kind → Place × List ℕ → Type 0
+Has kind read = kind_of read.0 ≡ kind
+
+-- what is turned into a place has the kind of all such places
+turned : {A : Type 0} (kind : Kind) (f : A → Place) (reading : Reading A) (answer : Place × List ℕ) → ((value : A) → kind_of (f value) ≡ kind) → (reading >>= (λ read. Ok (f read.0, read.1))) ≡ Ok answer → Has kind answer
+turned kind f (Ok read) answer all e = subst (Has kind) (same_answer e) (all read.0)
+turned kind f (Err error) answer all e = cc
+
+either_has : (kind : Kind) (test : Bool) (one other : Reading Place) (answer : Place × List ℕ) → (one ≡ Ok answer → Has kind answer) → (other ≡ Ok answer → Has kind answer) → (if test then one else other) ≡ Ok answer → Has kind answer
+either_has kind true one other answer p q e = p e
+either_has kind false one other answer p q e = q e
+
+sib_has : (mode : ℕ) (bytes : List ℕ) (answer : Place × List ℕ) → take_sib mode bytes ≡ Ok answer → Has InMemory answer
+sib_has mode [] answer e = cc
+sib_has mode (sib ∷ bytes) answer e =
+    either_has InMemory (mode == 0 && sib % 8 == 5) (take_baseless sib bytes) (take_scaled mode sib bytes) answer (turned InMemory _ (take_doubleword bytes) answer (λ n. refl)) (turned InMemory _ (take_displacement mode bytes) answer (λ d. refl)) e
+
+-- the field mod says the kind of the place that is read
+place_has : (mode rm : ℕ) (bytes : List ℕ) (answer : Place × List ℕ) → take_place mode rm bytes ≡ Ok answer → Has (kind_of_mod mode) answer
+place_has mode rm bytes answer = by (mode == 3) where
+  by : (b : Bool) → (if b then Ok (Direct rm, bytes) else (if rm == 4 then take_sib mode bytes else if mode == 0 && rm == 5 then take_doubleword bytes >>= (λ n. Ok (RipBased n.0, n.1)) else take_displacement mode bytes >>= (λ d. Ok (Based rm d.0, d.1)))) ≡ Ok answer → Has (if b then InRegister else InMemory) answer
+  by true e = subst (Has InRegister) (same_answer e) refl
+  by false e =
+      either_has InMemory (rm == 4) _ _ answer (sib_has mode bytes answer) (either_has InMemory (mode == 0 && rm == 5) _ _ answer (turned InMemory RipBased (take_doubleword bytes) answer (λ n. refl)) (turned InMemory (Based rm) (take_displacement mode bytes) answer (λ d. refl))) e
+
+-- a form that reads no address has checked that the operand is a register
+register_passed : (entry : Entry) (f : Fields) (mode reg : ℕ) (checks : List Check) → list_any is_register_check checks ≡ true → list_all (passes entry f (kind_of_mod mode) reg) checks ≡ true → mode ≡ 3
+register_passed entry f mode reg [] any all = cc
+register_passed entry f mode reg (Reg ∷ checks) any all = by (mode == 3) refl (both-parts _ _ all).0 where
+  by : (b : Bool) → (mode == 3) ≡ b → is_register (if b then InRegister else InMemory) ≡ true → mode ≡ 3
+  by true h r = eqb-true mode 3 h
+  by false h r = cc
+register_passed entry f mode reg (V0 ∷ checks) any all = register_passed entry f mode reg checks any (both-parts _ _ all).1
+register_passed entry f mode reg (L0 ∷ checks) any all = register_passed entry f mode reg checks any (both-parts _ _ all).1
+register_passed entry f mode reg (Mem ∷ checks) any all = register_passed entry f mode reg checks any (both-parts _ _ all).1
+register_passed entry f mode reg (Group ∷ checks) any all = register_passed entry f mode reg checks any (both-parts _ _ all).1
+register_passed entry f mode reg (VifMem ∷ checks) any all = register_passed entry f mode reg checks any (both-parts _ _ all).1
+
+place_by_has : (address : Bool) (mode rm : ℕ) (bytes : List ℕ) (answer : Place × List ℕ) → (address ≡ false → mode ≡ 3) → place_by address mode rm bytes ≡ Ok answer → Has (kind_of_mod mode) answer
+place_by_has true mode rm bytes answer direct e = place_has mode rm bytes answer e
+place_by_has false mode rm bytes answer direct e = rw (direct refl) (subst (Has InRegister) (same_answer e) refl)
+
+-- the checks that have passed, and the kind of the operand E
+pub record Passed (entry : Entry) (f : Fields) (operands : Operands) : Type 0 where
+  pub before_modrm : list_all (passes entry f WithoutModRM 0) (steps entry.form).before_modrm ≡ true
+  pub after_modrm : list_all (passes entry f (kind_of operands.place) operands.reg) (steps entry.form).after_modrm ≡ true
+  pub after_address : list_all (passes entry f (kind_of operands.place) operands.reg) (steps entry.form).after_address ≡ true
+  pub kind : Among (kind_of operands.place) (kinds_of entry.form)
+
+-- those from ModRM on
+record PassedModRM (entry : Entry) (f : Fields) (form : FormSteps) (operands : Operands) : Type 0 where
+  after_modrm : list_all (passes entry f (kind_of operands.place) operands.reg) form.after_modrm ≡ true
+  after_address : list_all (passes entry f (kind_of operands.place) operands.reg) form.after_address ≡ true
+  kind : (kind_of operands.place ≡ InRegister) ⊎ (kind_of operands.place ≡ InMemory)
+
+mod_kind : (mode : ℕ) (kind : Kind) → kind ≡ kind_of_mod mode → (kind ≡ InRegister) ⊎ (kind ≡ InMemory)
+mod_kind mode kind = by (mode == 3) where
+  by : (b : Bool) → kind ≡ (if b then InRegister else InMemory) → (kind ≡ InRegister) ⊎ (kind ≡ InMemory)
+  by true e = inl e
+  by false e = inr e
+
+walk_modrm-passed : (entry : Entry) (f : Fields) (form : FormSteps) (bytes : List ℕ) (answer : Operands × List ℕ) → (form.address || list_any is_register_check form.after_modrm) ≡ true → walk_modrm entry f form bytes ≡ Ok answer → PassedModRM entry f form answer.0
+walk_modrm-passed entry f form bytes answer direct e =
+    let modrm = then_ok (take_byte bytes) _ answer e in
+    let mode : ℕ = modrm.0.0 / 64 in
+    let rm : ℕ = modrm.0.0 % 8 in
+    let reg : ℕ = (modrm.0.0 / 8) % 8 in
+    let second = then_ok (check_all entry f (kind_of_mod mode) reg form.after_modrm modrm.0.1) _ answer modrm.2 in
+    let place = then_ok (place_by form.address mode rm second.0.1) _ answer second.2 in
+    let third = then_ok (check_all entry f (kind_of_mod mode) reg form.after_address place.0.1) _ answer place.2 in
+    let imm = then_ok (take_imm form.imm third.0.1) _ answer third.2 in
+    let after_modrm = check_all-passed entry f (kind_of_mod mode) reg form.after_modrm modrm.0.1 second.0 second.1 in
+    let after_address = check_all-passed entry f (kind_of_mod mode) reg form.after_address place.0.1 third.0 third.1 in
+    let registers : form.address ≡ false → mode ≡ 3 = λ none. register_passed entry f mode reg form.after_modrm (subst (λ a. (a || list_any is_register_check form.after_modrm) ≡ true) none direct) after_modrm in
+    let has : kind_of place.0.0 ≡ kind_of_mod mode = place_by_has form.address mode rm second.0.1 place.0 registers place.1 in
+    let found : PassedModRM entry f form (record { reg = reg; place = place.0.0; imm = imm.0.0 }) = record {
+      after_modrm = subst (λ kind. list_all (passes entry f kind reg) form.after_modrm ≡ true) (sym has) after_modrm;
+      after_address = subst (λ kind. list_all (passes entry f kind reg) form.after_address ≡ true) (sym has) after_address;
+      kind = mod_kind mode (kind_of place.0.0) has;
+    } in
+    subst (λ read. PassedModRM entry f form read.0) (same_answer imm.2) found
+
+walk_alone-place : (form : FormSteps) (bytes : List ℕ) (answer : Operands × List ℕ) → walk_alone form bytes ≡ Ok answer → kind_of answer.0.place ≡ WithoutModRM
+walk_alone-place form bytes answer e =
+    let imm = then_ok (take_imm form.imm bytes) _ answer e in
+    subst (λ read. kind_of read.0.place ≡ WithoutModRM) (same_answer imm.2) refl
+
+-- ---- the order of the steps
+
+-- the parts of the test of the order
+record Ordered (form : FormSteps) : Type 0 where
+  before_modrm : list_all is_prefix_check form.before_modrm ≡ true
+  after_modrm : list_all is_modrm_check form.after_modrm ≡ true
+  after_address : list_all is_late_check form.after_address ≡ true
+  rest : (if form.modrm then form.address || list_any is_register_check form.after_modrm
+      else is_none form.after_modrm && is_none form.after_address && not form.address) ≡ true
+
+ordered : (entry : Entry) → Ordered (steps entry.form)
+ordered entry =
+    let form = steps entry.form in
+    let all = both-parts (list_all is_prefix_check form.before_modrm && list_all is_modrm_check form.after_modrm && list_all is_late_check form.after_address) _ (orderly entry.form) in
+    let lists = both-parts (list_all is_prefix_check form.before_modrm && list_all is_modrm_check form.after_modrm) (list_all is_late_check form.after_address) all.0 in
+    let two = both-parts (list_all is_prefix_check form.before_modrm) (list_all is_modrm_check form.after_modrm) lists.0 in
+    record { before_modrm = two.0; after_modrm = two.1; after_address = lists.1; rest = all.1 }
+
+none_pass : (entry : Entry) (f : Fields) (kind : Kind) (reg : ℕ) (checks : List Check) → is_none checks ≡ true → list_all (passes entry f kind reg) checks ≡ true
+none_pass entry f kind reg [] h = refl
+none_pass entry f kind reg (c ∷ checks) h = cc
+
+-- where a walk answers, all checks have passed
+pub walk_form-passed : (entry : Entry) (f : Fields) (bytes : List ℕ) (answer : Operands × List ℕ) → walk_form entry f bytes ≡ Ok answer → Passed entry f answer.0
+unfolding walk_form
+walk_form-passed entry f bytes answer e =
+    let form = steps entry.form in
+    let first = then_ok (check_all entry f WithoutModRM 0 form.before_modrm bytes) _ answer e in
+    let before = check_all-passed entry f WithoutModRM 0 form.before_modrm bytes first.0 first.1 in
+    by form.modrm refl before first.0.1 first.2
+  where
+    by : (b : Bool) → (steps entry.form).modrm ≡ b → list_all (passes entry f WithoutModRM 0) (steps entry.form).before_modrm ≡ true → (rest : List ℕ) → (if b then walk_modrm entry f (steps entry.form) rest else walk_alone (steps entry.form) rest) ≡ Ok answer → Passed entry f answer.0
+    by true h before left e =
+        let rest = subst (λ m. (if m then (steps entry.form).address || list_any is_register_check (steps entry.form).after_modrm else is_none (steps entry.form).after_modrm && is_none (steps entry.form).after_address && not (steps entry.form).address) ≡ true) h (ordered entry).rest in
+        let passed = walk_modrm-passed entry f (steps entry.form) left answer rest e in
+        record {
+          before_modrm = before;
+          after_modrm = passed.after_modrm;
+          after_address = passed.after_address;
+          kind = subst (λ m. Among (kind_of answer.0.place) (if m then InRegister ∷ InMemory ∷ [] else WithoutModRM ∷ [])) (sym h) (elim passed.kind [ inl k ↦ inl k | inr k ↦ inr (inl k) ]);
+        }
+    by false h before left e =
+        let rest = subst (λ m. (if m then (steps entry.form).address || list_any is_register_check (steps entry.form).after_modrm else is_none (steps entry.form).after_modrm && is_none (steps entry.form).after_address && not (steps entry.form).address) ≡ true) h (ordered entry).rest in
+        let none = both-parts (is_none (steps entry.form).after_modrm) (is_none (steps entry.form).after_address) (both-parts (is_none (steps entry.form).after_modrm && is_none (steps entry.form).after_address) _ rest).0 in
+        record {
+          before_modrm = before;
+          after_modrm = none_pass entry f _ _ _ none.0;
+          after_address = none_pass entry f _ _ _ none.1;
+          kind = subst (λ m. Among (kind_of answer.0.place) (if m then InRegister ∷ InMemory ∷ [] else WithoutModRM ∷ [])) (sym h) (inl (walk_alone-place (steps entry.form) left answer e));
+        }
+
+-- ---- the row that is chosen
+
+allowed_group : (has : Bool) (form : Form) (l reg : ℕ) → is_group (groups form l) reg ≡ true → group_allowed form l (if has then Some reg else None) ≡ true
+allowed_group true form l reg h = h
+allowed_group false form l reg h = refl
+
+module _ (entry : Entry) (f : Fields) (operands : Operands) (passed : Passed entry f operands) where
+  permits_before : (c : Check) → Among c (steps entry.form).before_modrm → permits_choice (row_of entry f operands) c ≡ true
+  permits_before V0 m = refl
+  permits_before L0 m = from-list_all (passes entry f WithoutModRM 0) L0 _ passed.before_modrm m
+  permits_before Reg m = cc (from-list_all is_prefix_check Reg _ (ordered entry).before_modrm m)
+  permits_before Mem m = cc (from-list_all is_prefix_check Mem _ (ordered entry).before_modrm m)
+  permits_before Group m = cc (from-list_all is_prefix_check Group _ (ordered entry).before_modrm m)
+  permits_before VifMem m = refl
+
+  permits_after_modrm : (c : Check) → Among c (steps entry.form).after_modrm → permits_choice (row_of entry f operands) c ≡ true
+  permits_after_modrm V0 m = refl
+  permits_after_modrm L0 m = cc (from-list_all is_modrm_check L0 _ (ordered entry).after_modrm m)
+  permits_after_modrm Reg m = from-list_all (passes entry f (kind_of operands.place) operands.reg) Reg _ passed.after_modrm m
+  permits_after_modrm Mem m = from-list_all (passes entry f (kind_of operands.place) operands.reg) Mem _ passed.after_modrm m
+  permits_after_modrm Group m =
+      allowed_group (has_groups entry.form) entry.form f.l operands.reg (from-list_all (passes entry f (kind_of operands.place) operands.reg) Group _ passed.after_modrm m)
+  permits_after_modrm VifMem m = refl
+
+  permits_after_address : (c : Check) → Among c (steps entry.form).after_address → permits_choice (row_of entry f operands) c ≡ true
+  permits_after_address V0 m = refl
+  permits_after_address L0 m = cc (from-list_all is_late_check L0 _ (ordered entry).after_address m)
+  permits_after_address Reg m = from-list_all (passes entry f (kind_of operands.place) operands.reg) Reg _ passed.after_address m
+  permits_after_address Mem m = cc (from-list_all is_late_check Mem _ (ordered entry).after_address m)
+  permits_after_address Group m = cc (from-list_all is_late_check Group _ (ordered entry).after_address m)
+  permits_after_address VifMem m = refl
+
+  permits_each : (c : Check) → Among c (checks_of entry) → permits_choice (row_of entry f operands) c ≡ true
+  permits_each c m = elim (among-append c ((steps entry.form).before_modrm ++ (steps entry.form).after_modrm) (steps entry.form).after_address m) [
+    | inl k ↦ elim (among-append c (steps entry.form).before_modrm (steps entry.form).after_modrm k) [ inl n ↦ permits_before c n | inr n ↦ permits_after_modrm c n ]
+    | inr k ↦ permits_after_address c k
+  ]
+
+  -- no check refuses the row that was chosen
+  pub checks_permit : list_all (permits_choice (row_of entry f operands)) (checks_of entry) ≡ true
+  checks_permit = list_all-each _ _ permits_each
+
+  -- and where the entry's rules allow W and L, it exists
+  pub chosen_exists : allows entry.w f.w ≡ true → allows entry.l (f.l == 1) ≡ true → exists (row_of entry f operands) ≡ true
+  unfolding exists
+  chosen_exists w l = parts-both _ _ (parts-both _ _ w l) checks_permit

@@ -1,0 +1,56 @@
+-- What it is for the code to hold what the steps of a form read.
+use Rattle.std.specs.Prelude.{◌≡◌, ◌==◌, Bool, true}
+use Rattle.x86_operand.specs.Kind.{Kind, WithoutModRM, InRegister, InMemory}
+use Rattle.x86_operand.specs.Meaning.{Decoded}
+use Rattle.x86_address.specs.Place.{Place, kind_of, target}
+use Rattle.vex_rows.specs.declared.entry.Entry.{Entry}
+use Rattle.vex_rows.specs.declared.key.Prefix.{Prefix}
+use Rattle.vex_rows.specs.Rules.{allows}
+use Rattle.vex_forms.specs.declared.checks.Kind.{Kind as CodeKind}
+use Rattle.vex_forms.specs.declared.checks.Kind.TheVariants as code
+use Rattle.vex_forms.specs.declared.operand_e.OperandE.{OperandE}
+use Rattle.vex_forms.specs.declared.operand_e.OperandE.TheVariants.{Absent, Register, Memory}
+use Rattle.vex_forms.specs.declared.operand_fields.OperandFields.{OperandFields}
+use Rattle.vex_forms.specs.Fields.{Fields}
+use Rattle.vex_forms.specs.FormWalk.{Operands, row_of}
+use Rattle.vex_forms.specs.Gives.{gives}
+use Rattle.vex_forms.specs.Operands.{target_seen, NumberFits, BanksFit}
+
+-- the entry is one of those that the map, the implied prefix, W and L of the prefix choose
+pub record HasPrefix (entry : Entry) (f : Fields) : Type 0 where
+  pub map : entry.map ≡ f.map
+  pub pp : entry.pp ≡ f.pp
+  pub w : allows entry.w f.w ≡ true
+  pub l : allows entry.l (f.l == 1) ≡ true
+
+-- the kind of operand that the code holds
+abbrev pub kind_seen : CodeKind → Kind
+kind_seen code.WithoutModRM = WithoutModRM
+kind_seen code.Register = InRegister
+kind_seen code.Memory = InMemory
+
+-- the kind of an operand E
+abbrev pub kind_of_e : OperandE → Kind
+kind_of_e Absent = WithoutModRM
+kind_of_e (Register num) = InRegister
+kind_of_e (Memory address) = InMemory
+
+-- the operand E is what the place names, with the bits X and B
+pub record IsOperandE (x b : Bool) (place : Place) (e : OperandE) : Type 0 where
+  pub kind : kind_of_e e ≡ kind_of place
+  pub target : target_seen e ≡ target place x b
+  pub number : NumberFits e
+  pub banks : BanksFit e
+
+-- the numbers are those of the prefix, and those that the steps read
+pub record IsOperands (prefix : Prefix) (operands : Operands) (fields : OperandFields) : Type 0 where
+  pub r : fields.r ≡ prefix.r
+  pub vvvv : fields.vvvv ≡ prefix.vvvv
+  pub reg : fields.reg ≡ operands.reg
+  pub e : IsOperandE prefix.x prefix.b operands.place fields.e
+  pub imm : fields.imm ≡ operands.imm
+
+-- the instruction means what the row that was chosen gives, and its length is 0
+pub record IsInstruction (entry : Entry) (f : Fields) (operands : Operands) (instruction : Decoded) : Type 0 where
+  pub meaning : instruction.meaning ≡ gives (row_of entry f operands) f.r f.v operands.reg (target operands.place f.x f.b) operands.imm
+  pub length : instruction.len ≡ 0

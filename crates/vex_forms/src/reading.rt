@@ -1,0 +1,142 @@
+//! Reading what the form of an entry asks for.
+
+ghost use Rattle.std.specs.Prelude.{◌≡◌, ◌<◌, ◌/◌, ◌%◌};
+ghost use Rattle.x86_address.specs.Follows.{Same, Follows};
+ghost use Rattle.vex_rows.specs.Steps.{steps_seen};
+ghost use Rattle.vex_rows.specs.Row.{Among, is_memory};
+ghost use Rattle.vex_rows.specs.Table.{table};
+ghost use Rattle.vex_forms.specs.Fields.{fields_of};
+ghost use Rattle.vex_forms.specs.FormWalk.{place_by, take_imm, walk_alone, walk_form, walk_modrm};
+ghost use Rattle.vex_forms.specs.Reads.{HasPrefix, IsInstruction, IsOperandE, IsOperands, kind_of_e};
+
+use crate::checks::{Kind, do_checks};
+use crate::instruction::instruction_of;
+use crate::operand_e::OperandE;
+use crate::operand_fields::OperandFields;
+use crate::row_layout::layout;
+use vex_rows::{Entry, Prefix, Steps, steps_of};
+use x86_address::{read_address, read_imm, read_modrm};
+use x86_operand::{DecodeError, Instruction};
+use x86_reader::Reader;
+
+/// Reads the operand E after ModRM: SIB and displacement, where the form reads an address and ModRM names one.
+fn read_e<R: Reader>(
+    has_address: bool,
+    modrm: u8,
+    prefix: &Prefix,
+    words: &mut R,
+) -> Result<OperandE, DecodeError>
+    ensures { Follows (place_by has_address (modrm / 64) (modrm % 8)) (IsOperandE prefix.now.x prefix.now.b)
+        (R.state words.old) (R.state words.new) result }
+{
+    if !has_address || modrm / 64 == 3 {
+        return Ok(OperandE::Register(modrm % 8 + 8 * u8::from(prefix.b)));
+    }
+    let address = read_address(words, modrm, prefix.x, prefix.b)?;
+    Ok(OperandE::Memory(address))
+}
+
+/// Reads the immediate byte where there is one, and answers 0 where there is none.
+fn read_imm_if<R: Reader>(has_imm: bool, words: &mut R) -> Result<u8, DecodeError>
+    ensures { Follows (take_imm has_imm) Same (R.state words.old) (R.state words.new) result }
+{
+    if has_imm { read_imm(words) } else { Ok(0) }
+}
+
+/// Does the steps of a form from ModRM on.
+fn read_from_modrm<R: Reader>(
+    form: &Steps,
+    entry: &Entry,
+    prefix: &Prefix,
+    words: &mut R,
+) -> Result<OperandFields, DecodeError>
+    requires { prefix.now.vvvv < 16 }
+    ensures { Follows (walk_modrm entry.now (fields_of prefix.now) (steps_seen form.now)) (IsOperands prefix.now)
+        (R.state words.old) (R.state words.new) result }
+{
+    let modrm = read_modrm(words)?;
+    let reg = modrm / 8 % 8;
+    let kind = Kind::of(modrm);
+    do_checks(form.after_modrm, entry, prefix, kind, reg)?;
+    let e = read_e(form.address, modrm, prefix, words)?;
+    do_checks(form.after_address, entry, prefix, kind, reg)?;
+    let imm = read_imm_if(form.imm, words)?;
+    Ok(OperandFields {
+        r: prefix.r,
+        vvvv: prefix.vvvv,
+        reg,
+        e,
+        imm,
+    })
+}
+
+/// Does the steps of a form without ModRM.
+fn read_alone<R: Reader>(
+    form: &Steps,
+    prefix: &Prefix,
+    words: &mut R,
+) -> Result<OperandFields, DecodeError>
+    requires { prefix.now.vvvv < 16 }
+    ensures { Follows (walk_alone (steps_seen form.now)) (IsOperands prefix.now)
+        (R.state words.old) (R.state words.new) result }
+{
+    let imm = read_imm_if(form.imm, words)?;
+    Ok(OperandFields {
+        r: prefix.r,
+        vvvv: prefix.vvvv,
+        reg: 0,
+        e: OperandE::Absent,
+        imm,
+    })
+}
+
+/// Does the steps of an entry's form.
+#[tactic(auto, unfolding(crate::specs::FormWalk::walk_form))]
+fn read_operands<R: Reader>(
+    entry: &Entry,
+    prefix: &Prefix,
+    words: &mut R,
+) -> Result<OperandFields, DecodeError>
+    requires { prefix.now.vvvv < 16 }
+    ensures { Follows (walk_form entry.now (fields_of prefix.now)) (IsOperands prefix.now)
+        (R.state words.old) (R.state words.new) result }
+{
+    let form = steps_of(entry.form);
+    do_checks(form.before_modrm, entry, prefix, Kind::WithoutModRM, 0)?;
+    if form.modrm {
+        read_from_modrm(&form, entry, prefix, words)
+    } else {
+        read_alone(&form, prefix, words)
+    }
+}
+
+/// Whether the operand E is in memory.
+fn is_memory(e: OperandE) -> bool
+    ensures { result ≡ is_memory (kind_of_e e) }
+{
+    matches!(e, OperandE::Memory(_))
+}
+
+/// Does the steps of an entry's form over the bytes after the opcode byte, and answers the instruction that they mean
+/// with the fields of the prefix (Intel SDM volume 2, sections 2.1.3 to 2.1.5, 2.3.5 and 2.3.8). Its length is 0.
+///
+/// The first step that fails gives the error: `InvalidOpcode` where the field reg is none of the form's groups,
+/// `InvalidOperand` where another check doesn't pass, and `ExhaustedInput` where the reader refuses a byte, which comes
+/// only where its count of refusals rose in this call or stands at its last value. No other error comes.
+pub fn read_form<R: Reader>(
+    entry: &Entry,
+    prefix: &Prefix,
+    words: &mut R,
+) -> Result<Instruction, DecodeError>
+    requires listed { Among entry.now table }
+    requires prefix { HasPrefix entry.now (fields_of prefix.now) }
+    requires vvvv { prefix.now.vvvv < 16 }
+    ensures follows { Follows (walk_form entry.now (fields_of prefix.now)) (IsInstruction entry.now (fields_of prefix.now))
+        (R.state words.old) (R.state words.new) result }
+{
+    let fields = read_operands(entry, prefix, words)?;
+    match layout(entry, prefix.w, prefix.l, is_memory(fields.e), fields.reg) {
+        Some(layout) => Ok(instruction_of(&layout, &fields)),
+        None => unreachable!(),
+    }
+}
