@@ -4,6 +4,8 @@ pub mod Instruction
 pub mod Same
 pub mod Size
 pub mod Errors
+pub mod Note
+pub mod Range
 pub use Rattle.x86_opcode.specs.Name
 pub use Rattle.x86_opcode.specs.Number
 pub mod Kind

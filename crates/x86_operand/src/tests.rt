@@ -1,6 +1,6 @@
 use crate::{
-    Address, DecodeError, EncodeError, Index, Instruction, MemoryAccessSize, Opcode, Operand,
-    RegSpec, RegisterBank,
+    Address, DecodeError, EncodeError, FieldDescription, Index, InnerDescription, Instruction,
+    MemoryAccessSize, Note, Opcode, Operand, RegSpec, RegisterBank,
 };
 use std::test::Fail;
 
@@ -31,30 +31,41 @@ fn a_register_lies_in_its_bank(rt: HostRuntime) -> Result<(), Fail> {
     Ok(())
 }
 
+/// The sizes that have names.
+const NAMED_SIZES: [(u8, &str); 12] = [
+    (1, "byte"),
+    (2, "word"),
+    (4, "dword"),
+    (5, "ptr"),
+    (6, "far"),
+    (8, "qword"),
+    (10, "mword"),
+    (16, "xmmword"),
+    (32, "ymmword"),
+    (48, "m384b"),
+    (63, "ptr"),
+    (64, "zmmword"),
+];
+
 #[test]
-fn sizes_have_names(rt: HostRuntime) -> Result<(), Fail> {
-    for (n, name, bytes) in [
-        (1, "byte", Some(1)),
-        (2, "word", Some(2)),
-        (3, "BUG", Some(3)),
-        (4, "dword", Some(4)),
-        (5, "ptr", Some(5)),
-        (6, "far", Some(6)),
-        (8, "qword", Some(8)),
-        (10, "mword", Some(10)),
-        (16, "xmmword", Some(16)),
-        (32, "ymmword", Some(32)),
-        (48, "m384b", Some(48)),
-        (62, "BUG", Some(62)),
-        (63, "ptr", None),
-        (64, "zmmword", Some(64)),
-    ] {
+fn all_sizes_have_names(rt: HostRuntime) -> Result<(), Fail> {
+    for n in 1..65 {
         let size = MemoryAccessSize::of(n).ok_or("a size from 1 to 64")?;
+        let mut name = "BUG";
+        for (named, its_name) in NAMED_SIZES {
+            if named == n {
+                name = its_name;
+            }
+        }
         assert_eq!(rt; size.size_name(), name, "{n}");
-        assert_eq!(rt; size.bytes_size(), bytes, "{n}");
+        assert_eq!(rt;
+            size.bytes_size(),
+            if n == 63 { None } else { Some(n) },
+            "{n}"
+        );
         assert_eq!(rt; format!(in rt.alloc(); "{size}")?.as_str(), name, "{n}");
         assert_eq!(rt; format!(in rt.alloc(); "{size:?}")?.as_str(), name, "{n}");
-        assert_eq!(rt; Some(size), MemoryAccessSize::of(n));
+        assert_eq!(rt; size.clone()?, size, "{n}");
     }
     for n in [0, 65] {
         assert_eq!(rt; MemoryAccessSize::of(n), None, "{n}");
@@ -178,4 +189,91 @@ fn instructions_are_equal_by_meaning_and_length(rt: HostRuntime) -> Result<(), F
         Instruction::of(Opcode::Invalid, true)
     );
     Ok(())
+}
+
+#[test]
+fn clones_are_equal(rt: HostRuntime) -> Result<(), Fail> {
+    for (bank, num) in [
+        (RegisterBank::Q, 15),
+        (RegisterBank::D, 7),
+        (RegisterBank::X, 31),
+        (RegisterBank::Y, 16),
+        (RegisterBank::Z, 1),
+        (RegisterBank::RIP, 0),
+    ] {
+        let reg = RegSpec::of(bank, num).ok_or("a register")?;
+        assert_eq!(rt; reg.clone()?, reg, "{bank:?}");
+        let index = Index { reg, scale: num };
+        assert_eq!(rt; index.clone()?, index);
+        let address = Address {
+            base: Some(reg),
+            index: Some(index),
+            disp: -3,
+        };
+        assert_eq!(rt; address.clone()?, address);
+        let operands = [
+            Operand::Register { reg },
+            Operand::MemDeref { base: reg },
+            Operand::Memory { address },
+            Operand::ImmediateI8 { imm: -5 },
+        ];
+        for operand in &operands {
+            assert_eq!(rt; operand.clone()?, *operand);
+        }
+        let mut made = Instruction::from_parts(
+            true,
+            Opcode::VPAND,
+            &operands[..],
+            MemoryAccessSize::of(32),
+        ).ok_or("four operands")?;
+        made.set_len(9);
+        assert_eq!(rt; made.clone()?, made);
+    }
+    Ok(())
+}
+
+#[test]
+fn notes_have_texts(rt: HostRuntime) {
+    let rows = [
+        (Note::P0, "vex.p indicates no opcode prefix"),
+        (Note::P1, "vex.p indicates opcode prefix 66"),
+        (Note::P2, "vex.p indicates opcode prefix f3"),
+        (Note::P3, "vex.p indicates opcode prefix f2"),
+        (Note::M1, "vex.mmmmm indicates opcode escape of 0f"),
+        (Note::M2, "vex.mmmmm indicates opcode escape of 0f38"),
+        (Note::M3, "vex.mmmmm indicates opcode escape of 0f3a"),
+        (
+            Note::MOther,
+            "vex.mmmmm indicates illegal opcode escape and is invalid",
+        ),
+        (Note::R0, "vex.r extends extends rrr by 0b1000"),
+        (Note::R1, "vex.r does not alter rrr"),
+        (
+            Note::X0,
+            "vex.x extends extends index reg (if used) by 0b1000",
+        ),
+        (Note::X1, "vex.x does not alter index reg"),
+        (
+            Note::B0,
+            "vex.b extends extends base reg (if used) by 0b1000",
+        ),
+        (Note::B1, "vex.b does not alter base reg"),
+        (Note::L0, "vex.l selects 128-bit vector sizes"),
+        (Note::L1, "vex.l selects 256-bit vector sizes"),
+        (Note::W1, "vex.w selects 64-bit operand size"),
+        (Note::W0, "vex.w leaves default operand size"),
+        (Note::PrefixEnd, "vex prefix ends/opcode begins"),
+        (Note::OpcodeEnd, "vex opcode ends/operands begin"),
+    ];
+    for (place, (note, text)) in rows.iter().enumerate() {
+        assert_eq!(rt; note.text(), *text);
+        assert_eq!(rt; *note as usize, place);
+        let field = InnerDescription::Misc(*note).with_id(31);
+        assert!(rt; field.desc == InnerDescription::Misc(*note) && field.id == 31);
+    }
+    let default = FieldDescription::default();
+    assert!(rt; default == InnerDescription::Boundary(Note::P0).with_id(0));
+    let register = InnerDescription::RegisterNumber(1, RegSpec::rcx());
+    assert!(rt; register != InnerDescription::Misc(Note::P0));
+    assert!(rt; register.with_id(10) != register.with_id(9));
 }
