@@ -291,4 +291,5 @@ def main():
     write("proofs", "Vex.antt", vex(parts, without_vex))
 
 
-main()
+if __name__ == "__main__":
+    main()

@@ -18,8 +18,8 @@ use Rattle.vex_rows.specs.declared.steps.Check.TheVariants.{V0, L0, Reg, Mem, Gr
 use Rattle.vex_rows.specs.Steps.{FormSteps, steps}
 use Rattle.vex_rows.specs.Row.{Among, kinds_of, is_register}
 use Rattle.vex_rows.specs.Tests.{is_prefix_check, is_modrm_check, is_late_check, is_register_check, is_none}
-use Rattle.vex_rows.proofs.Lists.{both-parts, parts-both}
-use Rattle.vex_rows.proofs.Forms.{orderly}
+use Rattle.vex_rows.specs.Row.Lists.{both-parts, parts-both}
+use Rattle.vex_rows.specs.Steps.Laws.{orderly}
 use Rattle.vex_forms.specs.Fields.{Fields}
 use Rattle.vex_decode.specs.Spelling.{FitsReg, FitsImm, imm_bytes}
 use Rattle.vex_forms.specs.FormWalk.{passes, check_all, kind_of_mod, take_imm, Operands, place_by, walk_modrm, walk_alone, walk_form}

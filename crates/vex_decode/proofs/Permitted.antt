@@ -13,7 +13,7 @@ use Rattle.vex_rows.specs.Groups.{groups}
 use Rattle.vex_rows.specs.Steps.{steps}
 use Rattle.vex_rows.specs.Table.{table}
 use Rattle.vex_rows.specs.Row.{Row, Among, IsRow, rows, choices, exists, has_groups, opcode_of}
-use Rattle.vex_rows.proofs.Lists.{among-map, among-filter, both-parts, parts-both}
+use Rattle.vex_rows.specs.Row.Lists.{among-map, among-filter, both-parts, parts-both}
 use Rattle.vex_decode.specs.Laws.{AreWithin}
 
 -- the opcodes of rows that are no VEX opcodes

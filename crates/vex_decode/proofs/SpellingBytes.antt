@@ -8,8 +8,8 @@ use Rattle.x86_address.proofs.PlaceBytes.{IsBytes-append, IsBytes-place_bytes, t
 use Rattle.vex_rows.specs.Row.{Row, IsRow, has_imm}
 use Rattle.vex_rows.specs.Steps.{steps}
 use Rattle.vex_rows.specs.Rules.{map_number, pp_number}
-use Rattle.vex_rows.proofs.Forms.{byte_below}
-use Rattle.vex_rows.proofs.Rows.{chosen-row}
+use Rattle.vex_rows.specs.Table.Laws.{byte_below}
+use Rattle.vex_rows.specs.Row.Laws.{chosen-row}
 use Rattle.vex_forms.specs.Fields.{Fields}
 use Rattle.vex_decode.specs.Fields.{PrefixForm, C4, C5, prefix_bytes, IsPrefix}
 use Rattle.vex_decode.specs.Spelling.{Syntax, imm_bytes, bytes_of, FitsReg, FitsImm, IsSyntax, Spells}

@@ -23,9 +23,10 @@ use Rattle.vex_rows.specs.Groups.{groups}
 use Rattle.vex_rows.specs.Table.{table}
 use Rattle.vex_rows.specs.Row.{Row, Among, IsRow, kinds_of, is_register, is_memory, is_group, is_group_check, has_groups, group_choices, permits_choice, group_allowed, has_imm}
 use Rattle.vex_rows.specs.Tests.{is_prefix_check, is_modrm_check, is_late_check}
-use Rattle.vex_rows.proofs.Lists.{both-parts, from-list_all, list_all-each, found-find, find-only, among-append_left, among-append_right, among-append, from-map}
-use Rattle.vex_rows.proofs.Rows.{Chosen, chosen-row, row-chosen, checks_of}
-use Rattle.vex_rows.proofs.Forms.{orderly, one_entry, from-has_key, to-has_key}
+use Rattle.vex_rows.specs.Row.Lists.{both-parts, from-list_all, list_all-each, found-find, find-only, among-append_left, among-append_right, among-append, from-map}
+use Rattle.vex_rows.specs.Row.Laws.{Chosen, chosen-row, row-chosen, checks_of}
+use Rattle.vex_rows.specs.Steps.Laws.{orderly}
+use Rattle.vex_rows.specs.Table.Laws.{one_entry, from-has_key, to-has_key}
 use Rattle.vex_forms.specs.declared.slot.VvvvRule.{VvvvRule}
 use Rattle.vex_forms.specs.declared.slot.VvvvRule.TheVariants.{Named, Zero, Free}
 use Rattle.vex_forms.specs.Slots.{v_rule, demands_v}

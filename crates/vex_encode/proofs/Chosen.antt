@@ -7,8 +7,8 @@ use Rattle.x86_address.specs.Bytes.{bit, IsBytes}
 use Rattle.x86_address.specs.Place.{kind_of, IsPlace}
 use Rattle.vex_rows.specs.Steps.{steps}
 use Rattle.vex_rows.specs.Row.{Row, Among, exists}
-use Rattle.vex_rows.proofs.Lists.{parts-both}
-use Rattle.vex_rows.proofs.Rows.{Chosen, chosen-row}
+use Rattle.vex_rows.specs.Row.Lists.{parts-both}
+use Rattle.vex_rows.specs.Row.Laws.{Chosen, chosen-row}
 use Rattle.vex_forms.specs.Layout.{row_for}
 use Rattle.vex_decode.specs.Fields.{PrefixForm}
 use Rattle.vex_decode.specs.Spelling.{FitsReg}

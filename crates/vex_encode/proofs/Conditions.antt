@@ -22,8 +22,8 @@ use Rattle.x86_address.proofs.Shortest.{kind_of_target-target, names-shortest, I
 use Rattle.vex_rows.specs.Steps.{steps}
 use Rattle.vex_rows.specs.Groups.{groups}
 use Rattle.vex_rows.specs.Row.{Row, IsRow, Among, has_groups, has_imm}
-use Rattle.vex_rows.proofs.Lists.{both-parts}
-use Rattle.vex_rows.proofs.Rows.{chosen-row}
+use Rattle.vex_rows.specs.Row.Lists.{both-parts}
+use Rattle.vex_rows.specs.Row.Laws.{chosen-row}
 use Rattle.vex_forms.specs.declared.slot.Slot.{Slot}
 use Rattle.vex_forms.specs.declared.slot.Slot.TheVariants.{G, V, E, U8, I8, R4}
 use Rattle.vex_forms.specs.Slots.{slots, slots_of, index_bank, names_g, names_v, names_e, names_imm}

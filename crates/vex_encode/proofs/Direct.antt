@@ -7,7 +7,7 @@ use Rattle.vex_rows.specs.declared.key.Key.{Key}
 use Rattle.vex_rows.specs.Row.{Among}
 use Rattle.vex_rows.specs.Steps.{steps}
 use Rattle.vex_rows.specs.Table.{table}
-use Rattle.vex_rows.proofs.Lists.{from-list_all}
+use Rattle.vex_rows.specs.Row.Lists.{from-list_all}
 use Rattle.vex_forms.specs.Fields.{fields_of}
 use Rattle.vex_decode.specs.Walk.{key_of}
 use Rattle.vex_decode.proofs.Prefix.{is_one-bit}

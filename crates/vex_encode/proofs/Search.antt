@@ -15,8 +15,8 @@ use Rattle.vex_rows.specs.Steps.{steps}
 use Rattle.vex_rows.specs.Table.{table}
 use Rattle.vex_rows.specs.Row.{Row, Among, rows, exists, choices, choices_of_w, choices_of_l, row_at, has_groups, permits_choice, is_register}
 use Rattle.vex_rows.specs.Tests.{is_register_check}
-use Rattle.vex_rows.proofs.Lists.{both-parts, from-list_all}
-use Rattle.vex_rows.proofs.Rows.{checks_of}
+use Rattle.vex_rows.specs.Row.Lists.{both-parts, from-list_all}
+use Rattle.vex_rows.specs.Row.Laws.{checks_of}
 use Rattle.vex_forms.specs.Layout.{row_for}
 use Rattle.vex_decode.proofs.Form.{addressed_form}
 use Rattle.vex_encode.specs.Standard.{standard}

@@ -17,9 +17,9 @@ use Rattle.vex_rows.specs.Rules.{map_number}
 use Rattle.vex_rows.specs.Steps.{steps}
 use Rattle.vex_rows.specs.Groups.{groups}
 use Rattle.vex_rows.specs.Row.{Row, IsRow, opcode_of, Among, group_choices, has_groups, is_group_check, has_imm}
-use Rattle.vex_rows.proofs.Lists.{both-parts, parts-both, from-list_all, from-map}
-use Rattle.vex_rows.proofs.Rows.{Chosen, chosen-row}
-use Rattle.vex_rows.proofs.Forms.{small_groups}
+use Rattle.vex_rows.specs.Row.Lists.{both-parts, parts-both, from-list_all, from-map}
+use Rattle.vex_rows.specs.Row.Laws.{Chosen, chosen-row}
+use Rattle.vex_rows.specs.Groups.Laws.{small_groups}
 use Rattle.vex_forms.specs.declared.slot.VvvvRule.{VvvvRule}
 use Rattle.vex_forms.specs.declared.slot.VvvvRule.TheVariants.{Named, Zero, Free}
 use Rattle.vex_forms.specs.Slots.{slots, index_bank, size_of, v_rule, names_g, names_v, names_e, names_imm}

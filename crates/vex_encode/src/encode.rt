@@ -1,6 +1,6 @@
 //! The shortest spelling of an instruction, over all rows of registers.
 
-ghost use Rattle.std.specs.Prelude.{◌≡◌, false, Some};
+ghost use Rattle.std.specs.Prelude.{◌≡◌, ◌<◌, false, Some};
 ghost use Rattle.vex_rows.specs.Row.{Among, choices};
 ghost use Rattle.vex_rows.specs.Table.{table};
 ghost use Rattle.vex_forms.specs.Layout.{row_for};
@@ -10,6 +10,9 @@ ghost use Rattle.vex_encode.specs.Encode.{standard_of, shorter_of, best};
 use crate::assembly::assemble;
 use crate::spell::spell;
 use crate::spelling::Spelling;
+use std::marker::Brand;
+use std::sync::ledger::{Blank, Ledger};
+use step_counter::Steps;
 use vex_forms::{instruction_of, layout};
 use vex_rows::{Entry, entry_at, entry_count};
 use x86_operand::Instruction;
@@ -61,14 +64,26 @@ fn standard_by_entry(entry: &Entry, instruction: &Instruction) -> Option<Spellin
     shorter(with_w0, with_w1)
 }
 
+/// The shortest standard spelling by all entries, with a counter of its own.
+fn shortest_by_all<L: Ledger>(instruction: &Instruction, blank: Blank) -> Option<Spelling>
+    requires name { blank.name ≡ L.name }
+    requires parts { blank.parts ≡ L.parts }
+    requires some { 0 < blank.parts }
+    ensures { result ≡ canon instruction.now.meaning }
+{
+    let mut steps = Steps::<L>::new(blank);
+    let mut shortest = None;
+    for i in 0..entry_count() {
+        let entry = entry_at(i, &mut steps);
+        shortest = shorter(shortest, standard_by_entry(&entry, instruction));
+    }
+    shortest
+}
+
 /// The canonical bytes of an instruction's meaning, `None` exactly where no bytes spell it. The length that the
 /// instruction holds plays no part.
 pub fn canonical(instruction: &Instruction) -> Option<Spelling>
     ensures { result ≡ canon instruction.now.meaning }
 {
-    let mut shortest = None;
-    for i in 0..entry_count() {
-        shortest = shorter(shortest, standard_by_entry(&entry_at(i), instruction));
-    }
-    shortest
+    shortest_by_all::<Brand>(instruction, Blank::new(1))
 }

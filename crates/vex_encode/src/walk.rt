@@ -1,7 +1,8 @@
 //! Reading an instruction from the front of a slice, but for the settings.
 
-ghost use Rattle.std.specs.Prelude.{IfOk};
+ghost use Rattle.std.specs.Prelude.{◌≡◌, ◌<◌, IfOk, IfSome, find};
 ghost use Rattle.vex_rows.specs.Row.{Among};
+ghost use Rattle.vex_rows.specs.Rules.{has_key};
 ghost use Rattle.vex_rows.specs.Table.{table};
 ghost use Rattle.vex_forms.specs.Fields.{fields_of};
 ghost use Rattle.vex_decode.specs.Walk.{key_of, entry_of, found, walk};
@@ -12,6 +13,9 @@ ghost use Rattle.vex_encode.specs.Walk.{FindsEntry, ReadsInstruction};
 use crate::bytes::first_byte;
 use crate::form::{FormParts, form_parts};
 use crate::prefix::read_prefix;
+use std::marker::Brand;
+use std::sync::ledger::{Blank, Ledger};
+use step_counter::Steps;
 use vex_rows::{Entry, Key, Prefix, lookup};
 use x86_operand::DecodeError;
 
@@ -21,6 +25,17 @@ pub struct InstructionParts {
     pub entry: Entry,
     pub prefix: Prefix,
     pub form: FormParts,
+}
+
+/// The look-up of a key's entry with a counter of its own.
+fn look_up<L: Ledger>(key: &Key, blank: Blank) -> Option<Entry>
+    requires name { blank.name ≡ L.name }
+    requires parts { blank.parts ≡ L.parts }
+    requires some { 0 < blank.parts }
+    ensures listed { IfSome result (λ entry. Among entry table) }
+    ensures exact { result ≡ find (λ entry. has_key entry key.now) table }
+{
+    lookup(key, &mut Steps::<L>::new(blank))
 }
 
 /// The entry of an opcode byte behind a prefix.
@@ -40,7 +55,7 @@ fn find_entry<'a>(
         w: prefix.w,
         l: prefix.l,
     };
-    match lookup(&key) {
+    match look_up::<Brand>(&key, Blank::new(1)) {
         Some(entry) => Ok((entry, rest)),
         None => Err(DecodeError::InvalidOpcode),
     }

@@ -12,7 +12,7 @@ use Rattle.vex_rows.specs.declared.entry.Entry.{Entry}
 use Rattle.vex_rows.specs.declared.key.Prefix.{Prefix}
 use Rattle.vex_rows.specs.Steps.{steps}
 use Rattle.vex_rows.specs.Row.{Row, Among, exists, is_memory}
-use Rattle.vex_rows.proofs.Lists.{parts-both}
+use Rattle.vex_rows.specs.Row.Lists.{parts-both}
 use Rattle.vex_forms.specs.declared.operand_fields.OperandFields.{OperandFields}
 use Rattle.vex_forms.specs.declared.row_layout.RowLayout.{RowLayout}
 use Rattle.vex_forms.specs.Fields.{fields_of}

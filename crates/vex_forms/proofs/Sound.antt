@@ -7,7 +7,7 @@ use Rattle.vex_rows.specs.Steps.{steps}
 use Rattle.vex_rows.specs.Row.{Row, row_at, has_groups}
 use Rattle.std.specs.List.{list_any}
 use Rattle.std.proofs.lemmas.Bool.{leb-true}
-use Rattle.vex_rows.proofs.Lists.{both-parts}
+use Rattle.vex_rows.specs.Row.Lists.{both-parts}
 use Rattle.vex_forms.specs.declared.slot.VvvvRule.TheVariants.{Named, Zero, Free}
 use Rattle.vex_forms.specs.Slots.{slots, slots_of, names_g, names_v, demands_v, v_rule}
 use Rattle.vex_forms.specs.Tests.{is_sound, is_distinct, is_free, immediates, has_few}

@@ -1,4 +1,2 @@
-pub mod Lists
-pub mod Rows
-pub mod Forms
-pub mod Scan
+pub mod Index
+pub mod Opcodes

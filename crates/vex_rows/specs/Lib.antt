@@ -3,5 +3,7 @@ pub mod Rules
 pub mod Table
 pub mod Groups
 pub mod Row
+pub mod Cells
+pub mod Entries
 pub mod Tests
 pub mod Laws

@@ -1,9 +1,9 @@
 -- What the forms and the table must be for the laws of spellings: tests that are computed.
-use Rattle.std.specs.Prelude.{nat_lt, Bool, true, false, not, ◌&&◌, ◌||◌, ◌==◌, List, [], ◌∷◌, ◌++◌, map, filter, if◌then◌else◌}
+use Rattle.std.specs.Prelude.{nat_lt, ℕ, Bool, true, false, not, ◌&&◌, ◌||◌, ◌==◌, List, [], ◌∷◌, ◌++◌, map, filter, if◌then◌else◌}
 use Rattle.std.specs.List.{list_all, list_any}
 use Rattle.vex_rows.specs.declared.entry.Entry.{Entry}
 use Rattle.vex_rows.specs.declared.entry.Rule.{Rule}
-use Rattle.vex_rows.specs.declared.entry.Rule.TheVariants.{Zero, One}
+use Rattle.vex_rows.specs.declared.entry.Rule.TheVariants.{Any, Zero, One}
 use Rattle.vex_rows.specs.Rules.{map_number, pp_number}
 use Rattle.vex_rows.specs.declared.steps.Check.{Check}
 use Rattle.vex_rows.specs.declared.steps.Check.TheVariants.{V0, L0, Reg, Mem, Group, VifMem}
@@ -24,6 +24,32 @@ share_key a b =
 abbrev pub clashes : List Entry → List (Entry × Entry)
 clashes [] = []
 clashes (entry ∷ entries) = map (λ other. (entry, other)) (filter (share_key entry) entries) ++ clashes entries
+
+-- the place of a rule in table order
+abbrev pub rule_number : Rule → ℕ
+rule_number Any = 0
+rule_number Zero = 1
+rule_number One = 2
+
+-- what entries are ordered by: map, implied prefix, byte, W rule and L rule
+abbrev pub order_of : Entry → List ℕ
+order_of entry = map_number entry.map ∷ pp_number entry.pp ∷ entry.byte ∷ rule_number entry.w ∷ rule_number entry.l ∷ []
+
+-- whether a list of numbers comes before another of its length, by the first number in which they differ
+abbrev pub comes_before : List ℕ → List ℕ → Bool
+comes_before [] ys = false
+comes_before (x ∷ xs) [] = false
+comes_before (x ∷ xs) (y ∷ ys) = nat_lt x y || (x == y && comes_before xs ys)
+
+-- the entries that don't come after the entry before them, which is `last` for the first
+abbrev pub out_of_order_after : Entry → List Entry → List Entry
+out_of_order_after last [] = []
+out_of_order_after last (entry ∷ entries) = (if comes_before (order_of last) (order_of entry) then [] else entry ∷ []) ++ out_of_order_after entry entries
+
+-- the entries that don't come after the entry before them
+abbrev pub out_of_order : List Entry → List Entry
+out_of_order [] = []
+out_of_order (entry ∷ entries) = out_of_order_after entry entries
 
 -- the entries whose opcode byte is above 255
 abbrev pub large_bytes : List Entry → List Entry

@@ -9,9 +9,10 @@ use x86_operand::Opcode;
 
 /// What an entry asks of a bit of the prefix. The manual writes the rules as WIG, W0 and W1 for W, and as LIG, 128 and
 /// 256 for L (Intel SDM volume 2, section 3.1.1.2).
-#[derive(Clone, Copy, PartialEq, Eq, Debug)]
+#[derive(Clone, Copy, PartialEq, Eq, Debug, Default)]
 pub enum Rule {
     /// The bit plays no part.
+    #[default]
     Any,
     /// The bit is 0.
     Zero,
@@ -22,7 +23,7 @@ pub enum Rule {
 /// One line of the opcode maps: where it stands, what it asks of W and L, the form of its operands, and the opcode that
 /// it announces (Intel SDM volume 2, section 3.1.1.2). That is `Opcode::Invalid` where a group field or the kind of
 /// operand decides.
-#[derive(Clone, Copy, PartialEq, Eq, Debug)]
+#[derive(Clone, Copy, PartialEq, Eq, Debug, Default)]
 pub struct Entry {
     pub map: Map,
     pub pp: Pp,

@@ -6,8 +6,9 @@
 /// alone. `xmm`, `ymm`, and `xyLmm` or `Lmm` (x or y by L) are banks of vectors; `d` and `q` after an operand are 32
 /// and 64 bits, and `v` is either by the opcode. `imm8` and `Ib` are an immediate byte, `xmm4` and `ymm4` a register in
 /// its high four bits. A number after an opcode is the opcode byte.
-#[derive(Clone, Copy, PartialEq, Eq, Debug)]
+#[derive(Clone, Copy, PartialEq, Eq, Debug, Default)]
 pub enum Form {
+    #[default]
     Nothing,
     VPS_71,
     VPS_72,

@@ -1,9 +1,10 @@
 //! What a VEX prefix says, and the part of it that chooses an entry.
 
 /// An opcode map, named by its legacy escape bytes (Intel SDM volume 2, section 2.3.6.1).
-#[derive(Clone, Copy, PartialEq, Eq, Debug)]
+#[derive(Clone, Copy, PartialEq, Eq, Debug, Default)]
 pub enum Map {
     /// The map of the two-byte opcodes.
+    #[default]
     Map0F,
     /// The first map of the three-byte opcodes.
     Map0F38,
@@ -12,9 +13,10 @@ pub enum Map {
 }
 
 /// The legacy prefix that the field pp stands for (Intel SDM volume 2, section 2.3.6.3).
-#[derive(Clone, Copy, PartialEq, Eq, Debug)]
+#[derive(Clone, Copy, PartialEq, Eq, Debug, Default)]
 pub enum Pp {
     /// No prefix.
+    #[default]
     Plain,
     /// The prefix 66.
     Prefix66,

@@ -1,11 +1,26 @@
 //! Laws of the entries and of the forms, over the definitions alone: each function's contract is a law, and its body is
 //! empty.
 
-ghost use Rattle.vex_rows.specs.Laws.{KeysAreApart, FormsAreOrderly, GroupsAreFields};
+ghost use Rattle.vex_rows.specs.Laws.{KeysAreApart, TableIsInOrder, RowsHaveEntries, EntriesHaveRows, FormsAreOrderly, GroupsAreFields};
 
 /// Of all entries at most one has a key.
 pub fn keys_are_apart()
     ensures { KeysAreApart }
+{}
+
+/// The entries stand in table order: by map, implied prefix, byte, W rule and L rule.
+pub fn table_is_in_order()
+    ensures { TableIsInOrder }
+{}
+
+/// The entry of a row is one of the entries of the row's opcode, which `entries_of` answers.
+pub fn rows_have_entries()
+    ensures { RowsHaveEntries }
+{}
+
+/// An entry of an opcode stands in the table, and has a row that gives the opcode.
+pub fn entries_have_rows()
+    ensures { EntriesHaveRows }
 {}
 
 /// The steps of every form are in order: checks of prefix fields, ModRM, checks of ModRM, the address, and late checks.

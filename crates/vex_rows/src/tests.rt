@@ -1,9 +1,61 @@
 //! What no clause says: chosen keys, steps and groups, as the manual has them but for what docs/DIFFERENCES.md names.
 
+ghost use Rattle.std.specs.Prelude.{◌≡◌, ◌<◌, length};
+ghost use Rattle.vex_rows.specs.Table.{table};
+
 use crate::Check::{Group, L0, Mem, Reg, V0, VifMem};
-use crate::{Check, Form, Key, Map, Pp, entry_at, entry_count, groups_of, laws, lookup, steps_of};
+use crate::{
+    Check, Entry, Form, Key, Map, Pp, entries_of, entry_at, entry_count, groups_of, laws, lookup,
+    steps_of,
+};
+use arrayvec::ArrayVec;
+use std::marker::Brand;
+use std::sync::ledger::{Blank, Ledger};
 use std::test::Fail;
+use step_counter::Steps;
 use x86_operand::Opcode;
+
+// `lookup` with a counter of its own.
+fn look_up_by<L: Ledger>(key: &Key, blank: Blank) -> Option<Entry>
+    requires name { blank.name ≡ L.name }
+    requires parts { blank.parts ≡ L.parts }
+    requires some { 0 < blank.parts }
+{
+    lookup(key, &mut Steps::<L>::new(blank))
+}
+
+fn look_up(key: &Key) -> Option<Entry> {
+    look_up_by::<Brand>(key, Blank::new(1))
+}
+
+// `entry_at` with a counter of its own.
+fn entry_by<L: Ledger>(i: usize, blank: Blank) -> Entry
+    requires name { blank.name ≡ L.name }
+    requires parts { blank.parts ≡ L.parts }
+    requires some { 0 < blank.parts }
+    requires place { i < length table }
+{
+    entry_at(i, &mut Steps::<L>::new(blank))
+}
+
+fn entry(i: usize) -> Entry
+    requires { i < length table }
+{
+    entry_by::<Brand>(i, Blank::new(1))
+}
+
+// `entries_of` with a counter of its own.
+fn entries_by<L: Ledger>(opcode: Opcode, blank: Blank) -> ArrayVec<Entry, 4>
+    requires name { blank.name ≡ L.name }
+    requires parts { blank.parts ≡ L.parts }
+    requires some { 0 < blank.parts }
+{
+    entries_of(opcode, &mut Steps::<L>::new(blank))
+}
+
+fn entries(opcode: Opcode) -> ArrayVec<Entry, 4> {
+    entries_by::<Brand>(opcode, Blank::new(1))
+}
 
 #[test]
 fn keys_have_their_entries(rt: HostRuntime) -> Result<(), Fail> {
@@ -37,7 +89,7 @@ fn keys_have_their_entries(rt: HostRuntime) -> Result<(), Fail> {
                 w,
                 l,
             };
-            let found = lookup(&key).map(|entry| (entry.form, entry.opcode));
+            let found = look_up(&key).map(|entry| (entry.form, entry.opcode));
             assert_eq!(rt; found, wanted, "{key:?}");
         }
     }
@@ -49,7 +101,7 @@ fn keys_have_their_entries(rt: HostRuntime) -> Result<(), Fail> {
 fn each_entry_is_found_by_its_keys(rt: HostRuntime) -> Result<(), Fail> {
     assert!(rt; entry_count() > 0);
     for i in 0..entry_count() {
-        let entry = entry_at(i);
+        let entry = entry(i);
         for (w, l) in [(false, false), (false, true), (true, false), (true, true)] {
             let key = Key {
                 map: entry.map,
@@ -60,8 +112,27 @@ fn each_entry_is_found_by_its_keys(rt: HostRuntime) -> Result<(), Fail> {
             };
             if entry.w.allows(w) && entry.l.allows(l) {
                 assert!(rt; entry.has_key(&key));
-                assert_eq!(rt; lookup(&key), Some(entry));
+                assert_eq!(rt; look_up(&key), Some(entry));
             }
+        }
+    }
+    Ok(())
+}
+
+#[test]
+fn opcodes_have_their_entries(rt: HostRuntime) -> Result<(), Fail> {
+    let wanted: [(Opcode, &[u8]); 4] = [
+        (Opcode::VMOVAPS, &[0x28, 0x29]),
+        (Opcode::VADDPS, &[0x58]),
+        (Opcode::VZEROALL, &[0x77]),
+        (Opcode::BSF, &[]),
+    ];
+    for (opcode, bytes) in wanted {
+        let found = entries(opcode);
+        assert_eq!(rt; found.len(), bytes.len());
+        for (entry, byte) in found.iter().zip(bytes) {
+            assert_eq!(rt; entry.byte, *byte);
+            assert_eq!(rt; entry.opcode, opcode);
         }
     }
     Ok(())
@@ -122,6 +193,9 @@ fn forms_have_their_groups(rt: HostRuntime) -> Result<(), Fail> {
 #[test]
 fn laws_can_be_called() {
     laws::keys_are_apart();
+    laws::table_is_in_order();
+    laws::rows_have_entries();
+    laws::entries_have_rows();
     laws::forms_are_orderly();
     laws::groups_are_fields();
 }

@@ -17,9 +17,9 @@ use Rattle.vex_rows.specs.Steps.{FormSteps, steps}
 use Rattle.vex_rows.specs.Groups.{groups}
 use Rattle.vex_rows.specs.Row.{Row, Among, kinds_of, has_groups, is_group, is_register, group_allowed, permits_choice, exists}
 use Rattle.vex_rows.specs.Tests.{is_orderly, is_prefix_check, is_modrm_check, is_late_check, is_register_check, is_none}
-use Rattle.vex_rows.proofs.Lists.{both-parts, parts-both, from-list_all, list_all-each, among-append}
-use Rattle.vex_rows.proofs.Rows.{checks_of}
-use Rattle.vex_rows.proofs.Forms.{orderly}
+use Rattle.vex_rows.specs.Row.Lists.{both-parts, parts-both, from-list_all, list_all-each, among-append}
+use Rattle.vex_rows.specs.Row.Laws.{checks_of}
+use Rattle.vex_rows.specs.Steps.Laws.{orderly}
 use Rattle.vex_forms.specs.Fields.{Fields}
 use Rattle.vex_forms.specs.FormWalk.{passes, refusal, check_all, kind_of_mod, take_imm, Operands, place_by, walk_modrm, walk_alone, walk_form, row_of}
 

@@ -1,9 +1,5 @@
--- The shortest so far is that of the entries so far.
-use Rattle.std.proofs.Common.{◌≡◌, take, flat_map}
-use Rattle.vex_rows.specs.Table.{table}
-use Rattle.vex_rows.specs.Row.{choices}
-use Rattle.vex_encode.specs.Encode.{best}
+-- The ledger is that of the blank.
 use Rattle.vex_encode.proofs.encode.canonical.Given as goal
 
-abbrev pub invariant-loop-i : goal.invariant-loop-i
-invariant-loop-i l = l.shortest ≡ best l.instruction.meaning (flat_map choices (take l.i table))
+abbrev pub ghosts-shortest_by_all : goal.ghosts-shortest_by_all
+ghosts-shortest_by_all a = record { name = a.blank.name; parts = a.blank.parts }

@@ -8,7 +8,7 @@ use Rattle.vex_rows.specs.declared.steps.Check.{Check}
 use Rattle.vex_rows.specs.Steps.{steps}
 use Rattle.vex_rows.specs.Table.{table}
 use Rattle.vex_rows.specs.Row.{Row, Among, rows, row_at, choices, choices_of_kind, choices_of_l, choices_of_w, exists, IsRow, kinds_of, group_choices, permits_choice}
-use Rattle.vex_rows.proofs.Lists.{among-map, from-map, among-flat_map, from-flat_map, among-filter, from-filter, both-parts, parts-both}
+use Rattle.vex_rows.specs.Row.Lists.{among-map, from-map, among-flat_map, from-flat_map, among-filter, from-filter, both-parts, parts-both}
 
 -- all checks of an entry's form, in their order
 abbrev pub checks_of : Entry → List Check
@@ -46,6 +46,10 @@ from-choices entry row m =
     let chosen : Choice entry (row_at entry at_w.0 at_l.0 at_kind.0 at_group.0) =
     record { entry_is = refl; one_bit = zero_or_one at_l.0 at_l.1; kind = at_kind.1; group = at_group.1 } in
     subst (Choice entry) (sym at_group.2) chosen
+
+-- a choice of an entry is that entry's
+pub choices-entry : (entry : Entry) (row : Row) → Among row (choices entry) → row.entry ≡ entry
+choices-entry entry row m = (from-choices entry row m).entry_is
 
 among_bits : (w : Bool) → Among w (false ∷ true ∷ [])
 among_bits false = inl refl

@@ -1,42 +1,17 @@
--- The computed tests of the table and of the forms, and what follows from them.
-use Rattle.std.specs.Prelude.{◌≡◌, refl, ℕ, ◌<◌, Bool, true, false, not, ◌==◌, nat_lt, List, [], ◌∷◌, ◌++◌, map, filter, if◌then◌else◌}
-use Rattle.std.specs.List.{list_all}
-use Rattle.std.proofs.Common.{inl, inr, sym, ◌∙◌, subst, ltb-true, arith}
+-- What holds of the table by tests that are computed: of all entries at most one has a key, and opcode bytes are bytes.
+use Rattle.std.specs.Prelude.{◌≡◌, refl, ℕ, ◌<◌, Bool, true, false, not, ◌==◌, nat_lt, List, [], ◌∷◌, map, filter}
+use Rattle.std.proofs.Common.{inl, inr, sym, ◌∙◌, subst, arith}
 use Rattle.std.proofs.lemmas.Bool.{eqb-true, eq-eqb}
 use Rattle.std.proofs.lemmas.Bool.Decides.{nat_tests}
-use Rattle.x86_opcode.specs.declared.Opcode.{Opcode}
-use Rattle.x86_opcode.specs.declared.Opcode.TheVariants.{Integer}
-use Rattle.x86_opcode.specs.declared.IntegerOpcode.TheVariants.{VPSLLW}
 use Rattle.vex_rows.specs.declared.entry.Entry.{Entry}
 use Rattle.vex_rows.specs.declared.entry.Rule.{Rule}
 use Rattle.vex_rows.specs.declared.entry.Rule.TheVariants.{Zero, One}
-use Rattle.vex_rows.specs.declared.form.Form.{Form}
-use Rattle.vex_rows.specs.declared.form.Form.TheVariants.{Nothing, VPS_71}
 use Rattle.vex_rows.specs.declared.key.Key.{Key}
 use Rattle.vex_rows.specs.Rules.{has_key, allows, map_number, pp_number}
-use Rattle.vex_rows.specs.Steps.{steps}
-use Rattle.vex_rows.specs.Groups.{groups}
 use Rattle.vex_rows.specs.Table.{table}
 use Rattle.vex_rows.specs.Row.{Among}
-use Rattle.vex_rows.specs.Tests.{agree, share_key, clashes, is_orderly, large_bytes}
-use Rattle.vex_rows.proofs.Lists.{both-parts, parts-both, among-filter, from-list_all}
-
--- every form is orderly
-pub orderly : (form : Form) → is_orderly (steps form) ≡ true
-unfolding steps
-orderly Nothing = refl
-orderly _ = refl
-
--- a group that is there for one L alone
-small_either : (b : Bool) → list_all {X = ℕ × Opcode} (λ g. nat_lt g.0 8) (if b then (1, Integer VPSLLW) ∷ [] else []) ≡ true
-small_either true = refl
-small_either false = refl
-
--- every group is a value of a field of three bits
-pub small_groups : (form : Form) (l : ℕ) → list_all (λ g. nat_lt g.0 8) (groups form l) ≡ true
-unfolding groups
-small_groups VPS_71 l = small_either (l == 0)
-small_groups _ l = refl
+use Rattle.vex_rows.specs.Tests.{agree, share_key, clashes, large_bytes}
+use Rattle.vex_rows.specs.Row.Lists.{both-parts, parts-both, among-filter, none-append, none-map}
 
 -- no two entries have a key in common
 no_clashes : clashes table ≡ []
@@ -82,34 +57,22 @@ shared a b key h k =
     (eq-eqb _ _ (p.byte ∙ sym q.byte)) (eq-eqb _ _ (p.map ∙ sym q.map))) (eq-eqb _ _ (p.pp ∙ sym q.pp)))
     (allowed-agree a.w b.w key.w p.w q.w)) (allowed-agree a.l b.l key.l p.l q.l)
 
--- where nothing is left of a list, nothing stands in it
-empty_append : {A : Type 0} (xs ys : List A) → xs ++ ys ≡ [] → (xs ≡ []) × (ys ≡ [])
-empty_append [] ys e = (refl, e)
-empty_append (x ∷ xs) ys e = cc
-
-empty_map : {A B : Type 0} (f : A → B) (xs : List A) → map f xs ≡ [] → xs ≡ []
-empty_map f [] e = refl
-empty_map f (x ∷ xs) e = cc
-
 -- entries of a list without clashes that have one key are one
 only_one : (entries : List Entry) → clashes entries ≡ [] → (a b : Entry) (key : Key) → Among a entries → Among b entries → has_key a key ≡ true → has_key b key ≡ true → a ≡ b
 only_one [] none a b key m n h k = absurd m
 only_one (entry ∷ entries) none a b key (inl e) (inl f) h k = e ∙ sym f
 only_one (entry ∷ entries) none a b key (inl e) (inr n) h k =
-    let empty = empty_map (λ other. (entry, other)) (filter (share_key entry) entries) (empty_append (map (λ other. (entry, other)) (filter (share_key entry) entries)) (clashes entries) none).0 in
+    let empty = none-map (λ other. (entry, other)) (filter (share_key entry) entries) (none-append (map (λ other. (entry, other)) (filter (share_key entry) entries)) (clashes entries) none).0 in
     absurd (subst (Among b) empty (among-filter (share_key entry) b entries (subst (λ c. share_key c b ≡ true) e (shared a b key h k)) n))
 only_one (entry ∷ entries) none a b key (inr m) (inl f) h k =
-    let empty = empty_map (λ other. (entry, other)) (filter (share_key entry) entries) (empty_append (map (λ other. (entry, other)) (filter (share_key entry) entries)) (clashes entries) none).0 in
+    let empty = none-map (λ other. (entry, other)) (filter (share_key entry) entries) (none-append (map (λ other. (entry, other)) (filter (share_key entry) entries)) (clashes entries) none).0 in
     absurd (subst (Among a) empty (among-filter (share_key entry) a entries (subst (λ c. share_key c a ≡ true) f (shared b a key k h)) m))
 only_one (entry ∷ entries) none a b key (inr m) (inr n) h k =
-    only_one entries (empty_append (map (λ other. (entry, other)) (filter (share_key entry) entries)) (clashes entries) none).1 a b key m n h k
+    only_one entries (none-append (map (λ other. (entry, other)) (filter (share_key entry) entries)) (clashes entries) none).1 a b key m n h k
 
 -- of the entries of the table at most one has a key
 pub one_entry : (a b : Entry) (key : Key) → Among a table → Among b table → has_key a key ≡ true → has_key b key ≡ true → a ≡ b
 one_entry a b key m n h k = only_one table no_clashes a b key m n h k
-
-pub small_group : (form : Form) (l : ℕ) (group : ℕ × Opcode) → Among group (groups form l) → group.0 < 8
-small_group form l group m = ltb-true group.0 8 (from-list_all (λ g. nat_lt g.0 8) group (groups form l) (small_groups form l) m)
 
 -- every opcode byte is a byte
 no_large_bytes : large_bytes table ≡ []

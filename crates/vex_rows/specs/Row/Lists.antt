@@ -1,7 +1,9 @@
 -- Membership in lists that are mapped, filtered and joined.
-use Rattle.std.specs.Prelude.{◌≡◌, refl, ◌⊎◌, Bool, true, false, ◌&&◌, List, [], ◌∷◌, ◌++◌, map, filter, flat_map, find, Option, Some, None, cond}
-use Rattle.std.specs.List.{list_all}
-use Rattle.std.proofs.Common.{inl, inr, sym, ◌∙◌, ap, subst}
+use Rattle.std.specs.Prelude.{◌≡◌, refl, ℕ, ◌<◌, ◌==◌, slice_get, ◌⊎◌, Bool, true, false, ◌&&◌, ◌||◌, List, [], ◌∷◌, ◌++◌, map, filter, flat_map, find, Option, Some, None, cond}
+use Rattle.std.specs.List.{list_all, list_any}
+use Rattle.std.proofs.Common.{zero, suc, inl, inr, sym, ◌∙◌, ap, subst, arith}
+use Rattle.std.proofs.lemmas.Bool.{eqb-true}
+use Rattle.std.proofs.lemmas.Bool.Decides.{nat_tests}
 use Rattle.vex_rows.specs.Row.{Among}
 
 pub among-append_left : {A : Type 0} (x : A) (xs ys : List A) → Among x xs → Among x (xs ++ ys)
@@ -105,3 +107,92 @@ from-list_all p x (y ∷ xs) h (inr m) = from-list_all p x xs (both-parts (p y) 
 pub list_all-each : {A : Type 0} (p : A → Bool) (xs : List A) → ((x : A) → Among x xs → p x ≡ true) → list_all p xs ≡ true
 list_all-each p [] h = refl
 list_all-each p (y ∷ xs) h = parts-both (p y) (list_all p xs) (h y (inl refl)) (list_all-each p xs (λ x m. h x (inr m)))
+
+-- where nothing is left of joined lists, nothing is in either
+pub none-append : {A : Type 0} (xs ys : List A) → xs ++ ys ≡ [] → (xs ≡ []) × (ys ≡ [])
+none-append [] ys e = (refl, e)
+none-append (x ∷ xs) ys e = cc
+
+pub none-map : {A B : Type 0} (f : A → B) (xs : List A) → map f xs ≡ [] → xs ≡ []
+none-map f [] e = refl
+none-map f (x ∷ xs) e = cc
+
+pub none-flat_map : {A B : Type 0} (f : A → List B) (x : A) (xs : List A) → flat_map f xs ≡ [] → Among x xs → f x ≡ []
+none-flat_map f x [] e m = absurd m
+none-flat_map f x (y ∷ xs) e (inl same) = ap f same ∙ (none-append (f y) (flat_map f xs) e).0
+none-flat_map f x (y ∷ xs) e (inr m) = none-flat_map f x xs (none-append (f y) (flat_map f xs) e).1 m
+
+-- what a test finds wrong
+abbrev pub wrong : {A : Type 0} → Bool → A → List A
+wrong true x = []
+wrong false x = x ∷ []
+
+pub right : {A : Type 0} (b : Bool) (x : A) → wrong b x ≡ [] → b ≡ true
+right true x e = refl
+right false x e = cc
+
+-- the numbers below n
+abbrev pub below : ℕ → List ℕ
+below zero = []
+below (suc n) = n ∷ below n
+
+smaller : (k n : ℕ) → k < suc n → (k == n) ≡ false → k < n
+smaller k n h e = grind (arith, nat_tests)
+
+pub among-below : (k n : ℕ) → k < n → Among k (below n)
+among-below k zero h = absurd (omega arith)
+among-below k (suc n) h = by (k == n) refl (among-below k n) where
+  by : (b : Bool) → (k == n) ≡ b → (k < n → Among k (below n)) → Among k (below (suc n))
+  by true e later = inl (eqb-true k n e)
+  by false e later = inr (later (smaller k n h e))
+
+pub among_bits : (bit : Bool) → Among bit (false ∷ true ∷ [])
+among_bits false = inl refl
+among_bits true = inr (inl refl)
+
+-- what stands at a place stands in the list
+pub among-slice_get : {A : Type 0} (x : A) (xs : List A) (i : ℕ) → slice_get xs i ≡ Some x → Among x xs
+among-slice_get x [] i e = cc
+among-slice_get x (y ∷ xs) zero e = let same : y ≡ x = cc in inl (sym same)
+among-slice_get x (y ∷ xs) (suc i) e = inr (among-slice_get x xs i e)
+
+-- where nothing that stands in the list passes the test, a search finds nothing
+pub no-find : {A : Type 0} (p : A → Bool) (xs : List A) → ((x : A) → Among x xs → p x ≡ false) → find p xs ≡ None
+no-find p xs fails = by (find p xs) refl where
+  by : (o : Option _) → find p xs ≡ o → o ≡ None
+  by None e = refl
+  by (Some x) e = let found = found-find p xs x e in let no = fails x found.0 in let yes = found.1 in cc
+
+-- filtering joined lists
+pub filter-append : {A : Type 0} (p : A → Bool) (xs ys : List A) → filter p (xs ++ ys) ≡ filter p xs ++ filter p ys
+filter-append p [] ys = refl
+filter-append p (x ∷ xs) ys = by (p x) (filter-append p xs ys) where
+  by : (b : Bool) → filter p (xs ++ ys) ≡ filter p xs ++ filter p ys → cond b (x ∷ filter p (xs ++ ys)) (filter p (xs ++ ys)) ≡ cond b (x ∷ filter p xs) (filter p xs) ++ filter p ys
+  by true e = ap (λ zs. x ∷ zs) e
+  by false e = e
+
+pub filter-flat_map : {A B : Type 0} (p : B → Bool) (f : A → List B) (xs : List A) → filter p (flat_map f xs) ≡ flat_map (λ x. filter p (f x)) xs
+filter-flat_map p f [] = refl
+filter-flat_map p f (x ∷ xs) = filter-append p (f x) (flat_map f xs) ∙ ap (λ ys. filter p (f x) ++ ys) (filter-flat_map p f xs)
+
+-- a test of some element
+pub any-among : {A : Type 0} (p : A → Bool) (x : A) (xs : List A) → p x ≡ true → Among x xs → list_any p xs ≡ true
+any-among p x [] h m = absurd m
+any-among p x (y ∷ xs) h (inl e) = ap (λ b. b || list_any p xs) (sym (ap p e) ∙ h)
+any-among p x (y ∷ xs) h (inr m) = by (p y) (any-among p x xs h m) where
+  by : (b : Bool) → list_any p xs ≡ true → (b || list_any p xs) ≡ true
+  by true e = refl
+  by false e = e
+
+pub from-any : {A : Type 0} (p : A → Bool) (xs : List A) → list_any p xs ≡ true → (x : A) × Among x xs × (p x ≡ true)
+from-any p [] h = cc
+from-any p (y ∷ xs) h = by (p y) refl h (from-any p xs) where
+  by : (b : Bool) → p y ≡ b → (b || list_any p xs) ≡ true → (list_any p xs ≡ true → (x : _) × Among x xs × (p x ≡ true)) → (x : _) × Among x (y ∷ xs) × (p x ≡ true)
+  by true e h later = (y, inl refl, e)
+  by false e h later = let found = later h in (found.0, inr found.1, found.2)
+
+pub none-any : {A : Type 0} (p : A → Bool) (x : A) (xs : List A) → list_any p xs ≡ false → Among x xs → p x ≡ false
+none-any p x xs none m = by (p x) refl where
+  by : (b : Bool) → p x ≡ b → p x ≡ false
+  by true e = let some = any-among p x xs e m in cc
+  by false e = e

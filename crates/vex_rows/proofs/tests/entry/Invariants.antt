@@ -1,0 +1,5 @@
+-- The ledger is that of the blank.
+use Rattle.vex_rows.proofs.tests.entry.Given as goal
+
+abbrev pub ghosts-entry_by : goal.ghosts-entry_by
+ghosts-entry_by a = record { name = a.blank.name; parts = a.blank.parts }

@@ -1,0 +1,166 @@
+#!/usr/bin/env python3
+"""Writes the indexes of the table of entries in crates/vex_rows from src/table.rt.
+
+These are the cells by map, implied prefix, opcode byte, W and L (src/cells.rt and specs/Cells.antt), and the places of
+each opcode's entries by the opcode's number (src/places.rt), which tools/opcodes.txt gives. The check of vex_rows
+proves what is written here, and compares it with the table. Run it at the top of the repository after each change of
+the table; with --check it writes nothing and fails where a file isn't as it would write it.
+"""
+import re
+import sys
+from pathlib import Path
+
+from opcodes import HERE, read
+
+CRATE = HERE.parent / "crates" / "vex_rows"
+NOTE = "written by tools/entries.py"
+MAPS = ("Map0F", "Map0F38", "Map0F3A")
+PREFIXES = ("Plain", "Prefix66", "PrefixF3", "PrefixF2")
+NONE = 65535
+ENTRY = re.compile(r"entry!\((\w+) (\w+) 0x([0-9A-F]{2}) (\w+) (\w+) (\w+) (\w+)\)")
+# The opcodes that rows of a form give where the entry announces none.
+OPCODES = {
+    "VPS_71": ("VPSRLW", "VPSRAW", "VPSLLW"),
+    "VPS_72": ("VPSRLD", "VPSRAD", "VPSLLD"),
+    "VPS_73": ("VPSRLQ", "VPSRLDQ", "VPSLLQ", "VPSLLDQ"),
+    "BMI1_F3": ("BLSR", "BLSMSK", "BLSI"),
+    "MXCSR": ("VLDMXCSR", "VSTMXCSR"),
+    "VMOVLPS_12": ("VMOVHLPS", "VMOVLPS"),
+    "VMOVHPS_16": ("VMOVLHPS", "VMOVHPS"),
+}
+
+
+def entries():
+    """Map, implied prefix, byte, W rule, L rule, form and opcode of each line of the table."""
+    text = (CRATE / "src" / "table.rt").read_text()
+    table = text[text.index("pub static TABLE") :]
+    for map_name, prefix, byte, w, l, form, opcode in ENTRY.findall(table):
+        yield map_name, prefix, int(byte, 16), w, l, form, opcode
+
+
+def allowed(rule):
+    return {"Any": (0, 1), "Zero": (0,), "One": (1,)}[rule]
+
+
+def cells(table):
+    """For each map and implied prefix that has entries, the place of each key's entry."""
+    lists = {}
+    for place, (map_name, prefix, byte, w, l, _, _) in enumerate(table):
+        cells = lists.setdefault((map_name, prefix), [NONE] * 1024)
+        for w_bit in allowed(w):
+            for l_bit in allowed(l):
+                cells[4 * byte + 2 * w_bit + l_bit] = place
+    return lists
+
+
+def places(table):
+    """The places of each opcode's entries one after another, and where those of each opcode begin."""
+    parts, _, count = read(HERE / "opcodes.txt")
+    numbers = {"Invalid": 0, "BSF": 1}
+    for part in parts:
+        for i, name in enumerate(part.names()):
+            numbers[name] = part.first + i
+    lists = [[] for _ in range(count)]
+    for place, (*_, form, opcode) in enumerate(table):
+        for name in OPCODES.get(form, (opcode,)):
+            lists[numbers[name]].append(place)
+    starts = [0]
+    for of_opcode in lists:
+        starts.append(starts[-1] + len(of_opcode))
+    return [place for of_opcode in lists for place in of_opcode], starts
+
+
+def name_of(map_name, prefix):
+    return f"CELLS_{map_name.removeprefix('Map')}_{prefix.removeprefix('Prefix')}".upper()
+
+
+def static(doc, name, numbers, public):
+    lines = [f"/// {doc}", "#[rattlefmt::skip]"]
+    lines.append(f"{public}static {name}: [u16; {len(numbers)}] = [")
+    for i in range(0, len(numbers), 16):
+        lines.append("    " + ", ".join(map(str, numbers[i : i + 16])) + ",")
+    return lines + ["];", ""]
+
+
+def cells_code(lists):
+    lines = [
+        f"//! The cells of the direct index, {NOTE}.",
+        "//!",
+        "//! The cell at 4 * byte + 2 * W + L holds the place in table order of the entry that has the key, and 65535 where",
+        "//! none has it.",
+        "",
+        "ghost use Rattle.std.specs.Prelude.{◌≡◌};",
+        "ghost use Rattle.vex_rows.specs.Cells.{cells_of};",
+        "",
+        "use crate::key::{Map, Pp};",
+        "",
+    ]
+    for (map_name, prefix), numbers in lists.items():
+        doc = f"The cells of `{map_name}` and `{prefix}`."
+        lines += static(doc, name_of(map_name, prefix), numbers, "")
+    lines += [
+        "/// The cells of an opcode map and an implied prefix, none where it has no entries.",
+        "#[tactic(auto, unfolding(crate::specs::Cells::cells_of))]",
+        "pub fn cells_at(map: Map, pp: Pp) -> &'static [u16]",
+        "    ensures { result.now ≡ cells_of map pp }",
+        "{",
+        "    match (map, pp) {",
+    ]
+    for map_name in MAPS:
+        for prefix in PREFIXES:
+            cells = "&" + name_of(map_name, prefix) if (map_name, prefix) in lists else "&[]"
+            lines.append(f"        (Map::{map_name}, Pp::{prefix}) => {cells},")
+    return lines + ["    }", "}"]
+
+
+def cells_specs(lists):
+    names = ", ".join(name_of(*key) for key in lists)
+    lines = [
+        f"-- The cells of the direct index, {NOTE}.",
+        "use Rattle.std.specs.Prelude.{ℕ, List" + (", []" if len(lists) < 12 else "") + "}",
+        "use Rattle.vex_rows.specs.declared.key.Map.{Map}",
+        "use Rattle.vex_rows.specs.declared.key.Map.TheVariants.{" + ", ".join(MAPS) + "}",
+        "use Rattle.vex_rows.specs.declared.key.Pp.{Pp}",
+        "use Rattle.vex_rows.specs.declared.key.Pp.TheVariants.{" + ", ".join(PREFIXES) + "}",
+        "use Rattle.vex_rows.specs.declared.cells.TheConstants.{" + names + "}",
+        "",
+        "-- the cells of an opcode map and an implied prefix, none where it has no entries",
+        "unfoldable pub cells_of : Map → Pp → List ℕ",
+    ]
+    for map_name in MAPS:
+        for prefix in PREFIXES:
+            cells = name_of(map_name, prefix) if (map_name, prefix) in lists else "[]"
+            lines.append(f"cells_of {map_name} {prefix} = {cells}")
+    return lines
+
+
+def places_code(places, starts):
+    lines = [
+        f"//! The places in table order of each opcode's entries, {NOTE}.",
+        "",
+    ]
+    doc = "The places of the entries of opcode 0, then those of opcode 1, and so on."
+    lines += static(doc, "PLACES", places, "pub ")
+    doc = "Where in `PLACES` those of each opcode begin, by the opcode's number, and at last where they end."
+    return (lines + static(doc, "STARTS", starts, "pub "))[:-1]
+
+
+def main():
+    table = list(entries())
+    lists = cells(table)
+    files = {
+        CRATE / "src" / "cells.rt": cells_code(lists),
+        CRATE / "specs" / "Cells.antt": cells_specs(lists),
+        CRATE / "src" / "places.rt": places_code(*places(table)),
+    }
+    stale = [path for path, lines in files.items() if "--check" in sys.argv and path.read_text() != "\n".join(lines) + "\n"]
+    if "--check" not in sys.argv:
+        for path, lines in files.items():
+            path.write_text("\n".join(lines) + "\n")
+    for path in stale:
+        print(f"{path.relative_to(HERE.parent)} isn't what tools/entries.py writes", file=sys.stderr)
+    return 1 if stale else 0
+
+
+if __name__ == "__main__":
+    sys.exit(main())
