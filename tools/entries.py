@@ -86,8 +86,8 @@ def cells_code(lists):
     lines = [
         f"//! The cells of the direct index, {NOTE}.",
         "//!",
-        "//! The cell at 4 * byte + 2 * W + L holds the place in table order of the entry that has the key, and 65535 where",
-        "//! none has it.",
+        "//! The cell at 4 * byte + 2 * W + L holds the place in table order of the entry that has the key, and 65535",
+        "//! where none has it.",
         "",
         "ghost use Rattle.std.specs.Prelude.{◌≡◌};",
         "ghost use Rattle.vex_rows.specs.Cells.{cells_of};",
@@ -153,13 +153,15 @@ def main():
         CRATE / "specs" / "Cells.antt": cells_specs(lists),
         CRATE / "src" / "places.rt": places_code(*places(table)),
     }
-    stale = [path for path, lines in files.items() if "--check" in sys.argv and path.read_text() != "\n".join(lines) + "\n"]
-    if "--check" not in sys.argv:
-        for path, lines in files.items():
-            path.write_text("\n".join(lines) + "\n")
-    for path in stale:
-        print(f"{path.relative_to(HERE.parent)} isn't what tools/entries.py writes", file=sys.stderr)
-    return 1 if stale else 0
+    status = 0
+    for path, lines in files.items():
+        text = "\n".join(lines) + "\n"
+        if "--check" not in sys.argv:
+            path.write_text(text)
+        elif path.read_text() != text:
+            print(f"{path.relative_to(HERE.parent)} isn't what tools/entries.py writes", file=sys.stderr)
+            status = 1
+    return status
 
 
 if __name__ == "__main__":

@@ -1,7 +1,7 @@
 //! The cells of the direct index, written by tools/entries.py.
 //!
-//! The cell at 4 * byte + 2 * W + L holds the place in table order of the entry that has the key, and 65535 where
-//! none has it.
+//! The cell at 4 * byte + 2 * W + L holds the place in table order of the entry that has the key, and 65535
+//! where none has it.
 
 ghost use Rattle.std.specs.Prelude.{◌≡◌};
 ghost use Rattle.vex_rows.specs.Cells.{cells_of};

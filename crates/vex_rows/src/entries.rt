@@ -1,6 +1,7 @@
 //! The look-up of the one entry of a key, the entries by their place, and those of an opcode.
 
-ghost use Rattle.std.specs.Prelude.{◌≡◌, ◌≢◌, ◌+◌, ◌<◌, ◌≤◌, IfSome, IfNone, Some, true, false, length, slice_get, find, map};
+ghost use Rattle.std.specs.Prelude.{◌≡◌, ◌≢◌, ◌+◌, ◌<◌, ◌≤◌, IfSome, IfNone, Some, true, false};
+ghost use Rattle.std.specs.Prelude.{length, slice_get, find, map};
 ghost use Rattle.vex_rows.specs.declared.entry.Entry.{Entry};
 ghost use Rattle.vex_rows.specs.Entries.{entries_with, place_list, start_list};
 ghost use Rattle.vex_rows.specs.Row.{Among};
@@ -30,7 +31,8 @@ fn all() -> &'static [Entry]
 
 /// What the key's cell holds: the place in table order of the entry that has the key, or that there is none.
 fn cell(key: &Key) -> u16
-    ensures filled { result ≢ 65535 → (entry : Entry) × (slice_get table result ≡ Some entry) × (has_key entry key.now ≡ true) }
+    ensures filled { result ≢ 65535 → (entry : Entry) × (slice_get table result ≡ Some entry)
+        × (has_key entry key.now ≡ true) }
     ensures empty { result ≡ 65535 → (entry : Entry) → Among entry table → has_key entry key.now ≡ false }
 {
     let at = 4 * key.byte as usize + 2 * key.w as usize + key.l as usize;

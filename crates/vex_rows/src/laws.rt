@@ -1,7 +1,8 @@
 //! Laws of the entries and of the forms, over the definitions alone: each function's contract is a law, and its body is
 //! empty.
 
-ghost use Rattle.vex_rows.specs.Laws.{KeysAreApart, TableIsInOrder, RowsHaveEntries, EntriesHaveRows, FormsAreOrderly, GroupsAreFields};
+ghost use Rattle.vex_rows.specs.Laws.{KeysAreApart, TableIsInOrder, RowsHaveEntries, EntriesHaveRows};
+ghost use Rattle.vex_rows.specs.Laws.{FormsAreOrderly, GroupsAreFields};
 
 /// Of all entries at most one has a key.
 pub fn keys_are_apart()
