@@ -7,7 +7,7 @@ use Rattle.vex_rows.specs.declared.key.Map.TheVariants.{Map0F, Map0F38, Map0F3A}
 use Rattle.vex_rows.specs.declared.key.Pp.{Pp}
 use Rattle.vex_rows.specs.declared.key.Pp.TheVariants.{Plain, Prefix66, PrefixF3, PrefixF2}
 use Rattle.vex_rows.specs.Cells.{cells_of}
-use Rattle.vex_rows.specs.Entries.{cell_of}
+use Rattle.vex_rows.specs.Index.{cell_of}
 use Rattle.vex_rows.specs.Row.{Among}
 use Rattle.vex_rows.specs.Rules.{allows, has_key, map_number, pp_number}
 use Rattle.vex_rows.specs.Table.{table}

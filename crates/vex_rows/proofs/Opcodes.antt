@@ -5,7 +5,8 @@ use Rattle.std.proofs.lemmas.Option.{slice_get_within}
 use Rattle.x86_opcode.specs.declared.Opcode.{Opcode}
 use Rattle.x86_opcode.specs.Number.{opcode_number, same_opcode}
 use Rattle.vex_rows.specs.declared.entry.Entry.{Entry}
-use Rattle.vex_rows.specs.Entries.{rows_of, has_opcode, entries_with, place_list, start_list, places_at}
+use Rattle.vex_rows.specs.Entries.{rows_of, has_opcode, entries_with}
+use Rattle.vex_rows.specs.Index.{place_list, start_list, places_at}
 use Rattle.vex_rows.specs.Groups.{groups}
 use Rattle.vex_rows.specs.Row.{choices, exists, has_groups, opcode_of}
 use Rattle.vex_rows.specs.Steps.{steps}

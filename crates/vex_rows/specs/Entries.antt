@@ -1,25 +1,12 @@
--- Where the code finds the entry of a key and the entries of an opcode.
+-- The rows of an entry, and the entries of an opcode.
 pub mod Laws
-use Rattle.std.specs.Prelude.{ℕ, ◌+◌, ◌*◌, Bool, true, false, List, filter, slice_index, slice_index_or, slice_range}
+use Rattle.std.specs.Prelude.{Bool, List, filter}
 use Rattle.std.specs.List.{list_any}
 use Rattle.x86_opcode.specs.declared.Opcode.{Opcode}
-use Rattle.x86_opcode.specs.Number.{opcode_number, same_opcode}
+use Rattle.x86_opcode.specs.Number.{same_opcode}
 use Rattle.vex_rows.specs.declared.entry.Entry.{Entry}
-use Rattle.vex_rows.specs.declared.entries.TheConstants.{NO_ENTRY}
-use Rattle.vex_rows.specs.declared.key.Key.{Key}
-use Rattle.vex_rows.specs.declared.places.TheConstants.{PLACES, STARTS}
-use Rattle.vex_rows.specs.Cells.{cells_of}
 use Rattle.vex_rows.specs.Row.{Row, choices, exists, opcode_of}
 use Rattle.vex_rows.specs.Table.{table}
-
--- a bit as a number
-abbrev pub bit : Bool → ℕ
-bit true = 1
-bit false = 0
-
--- what the cell of a key holds: a place in table order, or that no entry has the key
-unfoldable pub cell_of : Key → ℕ
-cell_of key = slice_index_or (cells_of key.map key.pp) (4 * key.byte + 2 * bit key.w + bit key.l) NO_ENTRY
 
 -- the rows of an entry
 unfoldable pub rows_of : Entry → List Row
@@ -32,19 +19,3 @@ has_opcode entry opcode = list_any (λ row. same_opcode (opcode_of row) opcode) 
 -- the entries of which some row gives an opcode, in table order
 unfoldable pub entries_with : Opcode → List Entry
 entries_with opcode = filter (λ entry. has_opcode entry opcode) table
-
--- the places of all opcodes' entries, opcode by opcode
-unfoldable pub place_list : List ℕ
-place_list = PLACES
-
--- where in that list the places of each opcode's entries begin, by the opcode's number, and at last where they end
-unfoldable pub start_list : List ℕ
-start_list = STARTS
-
--- the places of the opcode that has a number
-unfoldable pub places_at : ℕ → List ℕ
-places_at number = slice_range place_list (slice_index start_list number) (slice_index start_list (number + 1))
-
--- the places of an opcode
-abbrev pub places_with : Opcode → List ℕ
-places_with opcode = places_at (opcode_number opcode)

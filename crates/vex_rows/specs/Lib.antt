@@ -4,6 +4,7 @@ pub mod Table
 pub mod Groups
 pub mod Row
 pub mod Cells
+pub mod Index
 pub mod Entries
 pub mod Tests
 pub mod Laws

@@ -3,7 +3,8 @@
 ghost use Rattle.std.specs.Prelude.{◌≡◌, ◌≢◌, ◌+◌, ◌<◌, ◌≤◌, IfSome, IfNone, Some, true, false};
 ghost use Rattle.std.specs.Prelude.{length, slice_get, find, map};
 ghost use Rattle.vex_rows.specs.declared.entry.Entry.{Entry};
-ghost use Rattle.vex_rows.specs.Entries.{entries_with, place_list, start_list};
+ghost use Rattle.vex_rows.specs.Entries.{entries_with};
+ghost use Rattle.vex_rows.specs.Index.{place_list, start_list};
 ghost use Rattle.vex_rows.specs.Row.{Among};
 ghost use Rattle.vex_rows.specs.Rules.{has_key};
 ghost use Rattle.vex_rows.specs.Table.{table};
@@ -77,7 +78,7 @@ pub fn entry_at<L: Ledger>(i: usize, steps: &mut Steps<L>) -> Entry
 }
 
 /// The places of all opcodes' entries, opcode by opcode.
-#[tactic(auto, unfolding(crate::specs::Entries::place_list))]
+#[tactic(auto, unfolding(crate::specs::Index::place_list))]
 fn all_places() -> &'static [u16]
     ensures { result.now ≡ place_list }
 {
@@ -85,7 +86,7 @@ fn all_places() -> &'static [u16]
 }
 
 /// Where the places of each opcode's entries begin and end.
-#[tactic(auto, unfolding(crate::specs::Entries::start_list))]
+#[tactic(auto, unfolding(crate::specs::Index::start_list))]
 fn all_starts() -> &'static [u16]
     ensures { result.now ≡ start_list }
 {

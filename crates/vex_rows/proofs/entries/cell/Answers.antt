@@ -1,7 +1,7 @@
 -- The place of a key's cell in the code is that of the definition.
 use Rattle.std.proofs.Common.{◌≡◌, ◌≢◌, ℕ, ◌+◌, ◌*◌, ◌<◌, Bool, true, false, Some, get_or, slice_get, sym, subst, refl, ap₂, ◌∙◌, le_refl, arith}
 use Rattle.vex_rows.specs.declared.entry.Entry.{Entry}
-use Rattle.vex_rows.specs.Entries.{bit, cell_of}
+use Rattle.vex_rows.specs.Index.{bit, cell_of}
 use Rattle.vex_rows.specs.Row.{Among}
 use Rattle.vex_rows.specs.Rules.{has_key}
 use Rattle.vex_rows.specs.Table.{table}
