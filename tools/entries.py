@@ -4,10 +4,12 @@
 These are the cells by map, implied prefix, opcode byte, W and L (src/cells.rt and specs/Cells.antt), and the places of
 each opcode's entries by the opcode's number (src/places.rt), which tools/opcodes.txt gives. The check of vex_rows
 proves what is written here, and compares it with the table. Run it at the top of the repository after each change of
-the table; with --check it writes nothing and fails where a file isn't as it would write it.
+the table; with --check it writes nothing and fails where a file isn't as it would write it. It names the entries that
+share a key or stand out of order, and the opcodes that have more than four entries, which that check refuses too.
 """
 import re
 import sys
+from collections import Counter
 from pathlib import Path
 
 from opcodes import HERE, read
@@ -16,6 +18,7 @@ CRATE = HERE.parent / "crates" / "vex_rows"
 NOTE = "written by tools/entries.py"
 MAPS = ("Map0F", "Map0F38", "Map0F3A")
 PREFIXES = ("Plain", "Prefix66", "PrefixF3", "PrefixF2")
+RULES = ("Any", "Zero", "One")
 NONE = 65535
 ENTRY = re.compile(r"entry!\((\w+) (\w+) 0x([0-9A-F]{2}) (\w+) (\w+) (\w+) (\w+)\)")
 # The opcodes that rows of a form give where the entry announces none.
@@ -36,6 +39,28 @@ def entries():
     table = text[text.index("pub static TABLE") :]
     for map_name, prefix, byte, w, l, form, opcode in ENTRY.findall(table):
         yield map_name, prefix, int(byte, 16), w, l, form, opcode
+
+
+def faults(table):
+    """What the check of vex_rows would refuse, in words."""
+    order = [
+        (MAPS.index(map_name), PREFIXES.index(prefix), byte, RULES.index(w), RULES.index(l))
+        for map_name, prefix, byte, w, l, _, _ in table
+    ]
+    for last, entry, key, next_key in zip(table, table[1:], order, order[1:]):
+        if key >= next_key:
+            yield f"out of order: {entry} after {last}"
+    holders = {}
+    for entry in table:
+        map_name, prefix, byte, w, l, _, _ = entry
+        for key in [(map_name, prefix, byte, w_bit, l_bit) for w_bit in allowed(w) for l_bit in allowed(l)]:
+            if key in holders:
+                yield f"one key: {holders[key]} and {entry}"
+            holders[key] = entry
+    counts = Counter(name for *_, form, opcode in table for name in OPCODES.get(form, (opcode,)))
+    for name, count in counts.items():
+        if count > 4:
+            yield f"{count} entries of {name}"
 
 
 def allowed(rule):
@@ -154,6 +179,9 @@ def main():
         CRATE / "src" / "places.rt": places_code(*places(table)),
     }
     status = 0
+    for fault in faults(table):
+        print(fault, file=sys.stderr)
+        status = 1
     for path, lines in files.items():
         text = "\n".join(lines) + "\n"
         if "--check" not in sys.argv:
