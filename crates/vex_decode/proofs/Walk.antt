@@ -30,7 +30,7 @@ use Rattle.vex_rows.specs.Table.Laws.{one_entry, from-has_key, to-has_key}
 use Rattle.vex_forms.specs.declared.slot.VvvvRule.{VvvvRule}
 use Rattle.vex_forms.specs.declared.slot.VvvvRule.TheVariants.{Named, Zero, Free}
 use Rattle.vex_forms.specs.Slots.{v_rule, demands_v}
-use Rattle.vex_forms.proofs.Sound.{demanded, v_rule-demanded, v_rule-zero}
+use Rattle.vex_forms.specs.Slots.Laws.{demanded, v_rule-demanded, v_rule-zero}
 use Rattle.vex_forms.specs.Fields.{Fields}
 use Rattle.vex_decode.specs.Fields.{PrefixForm, prefix_bytes, IsPrefix}
 use Rattle.vex_decode.specs.Spelling.{Syntax, imm_bytes, bytes_of, FitsRule, FitsGroup, IsSyntax}

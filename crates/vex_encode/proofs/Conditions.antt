@@ -29,7 +29,7 @@ use Rattle.vex_forms.specs.declared.slot.Slot.TheVariants.{G, V, E, U8, I8, R4}
 use Rattle.vex_forms.specs.Slots.{slots, slots_of, index_bank, names_g, names_v, names_e, names_imm}
 use Rattle.vex_forms.specs.Gives.{gives, slot_operand, target_operand}
 use Rattle.vex_forms.specs.Tests.{immediates}
-use Rattle.vex_forms.proofs.Sound.{sound_row, distinct, free}
+use Rattle.vex_forms.specs.Slots.Laws.{sound_row, distinct, free}
 use Rattle.vex_decode.specs.Spelling.{Syntax, meant, IsSyntax}
 use Rattle.vex_encode.specs.Standard.{operand_of_kind, number_of, imm_of, target_of, reg_for, candidate, standard}
 use Rattle.vex_encode.specs.Conditions.{RegisterFits, SlotBaseFits, SlotIndexFits, AddressFits, PlacedFits, OperandFits, OperandsFit, CanGive}

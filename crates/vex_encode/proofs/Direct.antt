@@ -5,6 +5,7 @@ use Rattle.vex_rows.specs.declared.entry.Entry.{Entry}
 use Rattle.vex_rows.specs.declared.key.Prefix.{Prefix}
 use Rattle.vex_rows.specs.declared.key.Key.{Key}
 use Rattle.vex_rows.specs.Row.{Among}
+use Rattle.vex_rows.specs.FormRows.{form_row}
 use Rattle.vex_rows.specs.Steps.{steps}
 use Rattle.vex_rows.specs.Table.{table}
 use Rattle.vex_rows.specs.Row.Lists.{from-list_all}
@@ -13,7 +14,7 @@ use Rattle.vex_decode.specs.Walk.{key_of}
 use Rattle.vex_decode.proofs.Prefix.{is_one-bit}
 
 all_direct : list_all (λ entry. not (steps entry.form).address) table ≡ true
-unfolding table steps
+unfolding table steps form_row
 all_direct = refl
 
 not_true : (b : Bool) → not b ≡ true → b ≡ false

@@ -11,6 +11,7 @@ use Rattle.x86_operand.specs.Meaning.{Meaning}
 use Rattle.vex_rows.specs.declared.entry.Entry.{Entry}
 use Rattle.vex_rows.specs.declared.steps.Check.{Check}
 use Rattle.vex_rows.specs.declared.steps.Check.TheVariants.{V0, L0, Reg, Mem, Group, VifMem}
+use Rattle.vex_rows.specs.FormRows.{form_row}
 use Rattle.vex_rows.specs.Steps.{steps}
 use Rattle.vex_rows.specs.Table.{table}
 use Rattle.vex_rows.specs.Row.{Row, Among, rows, exists, choices, choices_of_w, choices_of_l, row_at, has_groups, permits_choice, is_register}
@@ -167,7 +168,7 @@ unfolding canon rows
 canon-best m = refl
 
 all_alone : list_all (λ entry. not (has_groups entry.form)) table ≡ true
-unfolding table steps has_groups
+unfolding table steps form_row has_groups
 all_alone = refl
 
 not_true : (b : Bool) → not b ≡ true → b ≡ false

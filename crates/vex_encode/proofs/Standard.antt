@@ -25,7 +25,7 @@ use Rattle.vex_forms.specs.declared.slot.VvvvRule.TheVariants.{Named, Zero, Free
 use Rattle.vex_forms.specs.Slots.{slots, index_bank, size_of, v_rule, names_g, names_v, names_e, names_imm}
 use Rattle.vex_forms.specs.Gives.{gives, slot_operand}
 use Rattle.vex_forms.specs.Tests.{immediates}
-use Rattle.vex_forms.proofs.Sound.{sound_row, v_rule-zero}
+use Rattle.vex_forms.specs.Slots.Laws.{sound_row, v_rule-zero}
 use Rattle.vex_forms.specs.Fields.{Fields}
 use Rattle.vex_decode.specs.Fields.{PrefixForm, C4, C5, FitsTwoBytes, CanSay, prefix_bytes}
 use Rattle.vex_decode.specs.Spelling.{Syntax, imm_bytes, bytes_of, meant, FitsRule, FitsGroup, FitsReg, FitsImm, IsSyntax, SpellsBy}

@@ -2,7 +2,6 @@
 
 ghost use Rattle.std.specs.Prelude.{◌≡◌, ◌==◌, ◌/◌, ◌%◌, ◌<◌, ℕ, List, Ok, Err, MatchResult, true, false, drop};
 ghost use Rattle.x86_address.specs.Bytes.{bit};
-ghost use Rattle.vex_rows.specs.Groups.{groups};
 ghost use Rattle.vex_rows.specs.Steps.{steps, steps_seen};
 ghost use Rattle.vex_forms.specs.Fields.{fields_of};
 ghost use Rattle.vex_forms.specs.FormWalk.{passes, refusal, check_all, kind_of_mod, walk_modrm, walk_alone, walk_form};
@@ -10,7 +9,7 @@ ghost use Rattle.vex_encode.specs.Form.{kind_seen, parts_seen, ChecksGive};
 ghost use Rattle.vex_encode.specs.Reads.{Gives};
 
 use crate::bytes::{first_byte, immediate};
-use vex_rows::{Check, Entry, Prefix, Steps, groups_of, is_group, steps_of};
+use vex_rows::{Check, Entry, FormRow, Prefix, row_of_form};
 use x86_operand::DecodeError;
 
 /// What stands in the place of the operand E.
@@ -36,6 +35,7 @@ pub struct FormParts {
 }
 
 /// Whether a check passes, by the prefix, the kind of the operand E and the field reg.
+#[tactic(auto, unfolding(vex_rows::specs::Groups::groups))]
 fn passes(check: Check, entry: &Entry, prefix: &Prefix, kind: Kind, reg: u8) -> bool
     ensures { result ≡ passes entry.now (fields_of prefix.now) (kind_seen kind) reg check }
 {
@@ -44,7 +44,7 @@ fn passes(check: Check, entry: &Entry, prefix: &Prefix, kind: Kind, reg: u8) -> 
         Check::L0 => !prefix.l,
         Check::Reg => kind == Kind::Register,
         Check::Mem => kind == Kind::Memory,
-        Check::Group => is_group(groups_of(entry.form, prefix.l), reg),
+        Check::Group => row_of_form(entry.form).is_group(reg),
         Check::VifMem => kind != Kind::Memory || prefix.vvvv == 0,
     }
 }
@@ -92,7 +92,7 @@ fn kind_of(modrm: u8) -> Kind
 
 /// Reads from ModRM on, for a form that reads no address.
 fn parts_from_modrm<'a>(
-    form: &Steps,
+    form: &FormRow,
     entry: &Entry,
     prefix: &Prefix,
     bytes: &'a [u8],
@@ -102,8 +102,8 @@ fn parts_from_modrm<'a>(
 {
     let (modrm, rest) = first_byte(bytes)?;
     let reg = modrm / 8 % 8;
-    do_checks(form.after_modrm, entry, prefix, kind_of(modrm), reg)?;
-    do_checks(form.after_address, entry, prefix, kind_of(modrm), reg)?;
+    do_checks(form.after_modrm.items().as_slice(), entry, prefix, kind_of(modrm), reg)?;
+    do_checks(form.after_address.items().as_slice(), entry, prefix, kind_of(modrm), reg)?;
     let (imm, rest) = immediate(form.imm, rest)?;
     let parts = FormParts {
         reg,
@@ -114,7 +114,7 @@ fn parts_from_modrm<'a>(
 }
 
 /// Reads what a form without ModRM has: its immediate byte, where it has one.
-fn parts_alone<'a>(form: &Steps, bytes: &'a [u8]) -> Result<(FormParts, &'a [u8]), DecodeError>
+fn parts_alone<'a>(form: &FormRow, bytes: &'a [u8]) -> Result<(FormParts, &'a [u8]), DecodeError>
     ensures { Gives parts_seen result (walk_alone (steps_seen form.now) bytes.now) }
 {
     let (imm, rest) = immediate(form.imm, bytes)?;
@@ -136,11 +136,11 @@ pub fn form_parts<'a>(
     requires { (steps entry.now.form).address ≡ false }
     ensures { Gives parts_seen result (walk_form entry.now (fields_of prefix.now) bytes.now) }
 {
-    let form = steps_of(entry.form);
-    do_checks(form.before_modrm, entry, prefix, Kind::WithoutModRM, 0)?;
+    let form = row_of_form(entry.form);
+    do_checks(form.before_modrm.items().as_slice(), entry, prefix, Kind::WithoutModRM, 0)?;
     if form.modrm {
-        parts_from_modrm(&form, entry, prefix, bytes)
+        parts_from_modrm(form, entry, prefix, bytes)
     } else {
-        parts_alone(&form, bytes)
+        parts_alone(form, bytes)
     }
 }

@@ -1,17 +1,21 @@
 -- The bank of every slot of a row has sixteen registers, and so has that of its index.
-use Rattle.std.specs.Prelude.{◌≡◌, refl, ℕ, ◌<◌, Bool, true, false, ◌==◌, ◌&&◌, List, [], ◌∷◌, length, if◌then◌else◌}
+use Rattle.std.specs.Prelude.{◌≡◌, refl, ℕ, ◌<◌, Bool, true, false, ◌==◌, ◌&&◌, List, [], ◌∷◌, ◌++◌, flat_map, length, if◌then◌else◌}
 use Rattle.std.proofs.Common.{zero, suc, arith, get_or}
 use Rattle.x86_opcode.specs.declared.Opcode.{Opcode}
 use Rattle.x86_opcode.specs.declared.Opcode.TheVariants.{Integer, Float}
 use Rattle.x86_opcode.specs.declared.IntegerOpcode.TheVariants as integer
 use Rattle.x86_opcode.specs.declared.FloatOpcode.TheVariants as float
-use Rattle.x86_operand.specs.declared.register.RegisterBank.TheVariants.{X, Y}
-use Rattle.vex_rows.specs.declared.form.Form.{Form}
-use Rattle.vex_rows.specs.declared.form.Form.TheVariants.{Nothing, VMOVSS_10, VMOVSD_10, VMOVSS_11, VMOVSD_11, G_ExyL_V_xyLmm}
+use Rattle.x86_operand.specs.declared.register.RegisterBank.TheVariants.{Q, X, Y}
+use Rattle.vex_rows.specs.declared.form_row.BankRule.{BankRule}
+use Rattle.vex_rows.specs.declared.form_row.BankRule.TheVariants as rule
+use Rattle.vex_rows.specs.declared.form_row.SlotRule.{SlotRule}
+use Rattle.vex_rows.specs.declared.form_row.SlotRule.TheVariants as slot_rule
+use Rattle.vex_rows.specs.Few.{items}
+use Rattle.vex_rows.specs.FormRows.{form_row, gathers}
 use Rattle.vex_rows.specs.Row.{Row, is_memory}
 use Rattle.vex_forms.specs.declared.slot.Slot.{Slot}
-use Rattle.vex_forms.specs.declared.slot.Slot.TheVariants.{G, V, E}
-use Rattle.vex_forms.specs.Slots.{slots, slots_of, index_bank, index_bank_of, vector, general, element_bank, gather_bank, gather_index_bank}
+use Rattle.vex_forms.specs.declared.slot.Slot.TheVariants.{V}
+use Rattle.vex_forms.specs.Slots.{slots, slots_at, index_bank, bank_at, vector, general, element_bank, gather_bank, gather_index_bank}
 use Rattle.vex_forms.specs.Operands.{has_sixteen, slot_fits, slots_fit}
 
 vector_fits : (l : ℕ) → has_sixteen (vector l) ≡ true
@@ -34,45 +38,58 @@ gather_fits l (Integer integer.VPGATHERQD) = refl
 gather_fits l (Float float.VGATHERQPS) = refl
 gather_fits l _ = vector_fits l
 
+-- every bank that a form can name fits
+bank_fits : (row : Row) (bank : BankRule) → has_sixteen (bank_at row bank) ≡ true
+bank_fits row rule.ByL = vector_fits row.l
+bank_fits row rule.ByW = general_fits row.w
+bank_fits row rule.Element = element_fits row.entry.opcode
+bank_fits row rule.Gather = gather_fits row.l row.entry.opcode
+bank_fits row _ = refl
+
+both_fit : (a b : Bool) → (a && b) ≡ true → (a ≡ true) × (b ≡ true)
+both_fit true b h = (refl, h)
+both_fit false b h = cc
+
 -- one slot after another fits
 fits_then : (a b : Bool) → a ≡ true → b ≡ true → (a && b) ≡ true
 fits_then true b h k = k
 fits_then false b h k = cc
 
--- slots that depend on the kind of operand
-either_fits : (b : Bool) (xs ys : List Slot) → slots_fit xs ≡ true → slots_fit ys ≡ true → slots_fit (if b then xs else ys) ≡ true
-either_fits true xs ys h k = h
-either_fits false xs ys h k = k
+fits_append : (xs ys : List Slot) → slots_fit xs ≡ true → slots_fit ys ≡ true → slots_fit (xs ++ ys) ≡ true
+fits_append [] ys h k = k
+fits_append (x ∷ xs) ys h k = let both = both_fit (slot_fits x) (slots_fit xs) h in fits_then (slot_fits x) (slots_fit (xs ++ ys)) both.0 (fits_append xs ys both.1 k)
 
-slots_of-fit : (form : Form) (row : Row) → slots_fit (slots_of form row) ≡ true
-slots_of-fit Nothing row = refl
-slots_of-fit VMOVSS_10 row = either_fits (is_memory row.kind) (G X ∷ E X ∷ []) (G X ∷ V X ∷ E X ∷ []) refl refl
-slots_of-fit VMOVSD_10 row = either_fits (is_memory row.kind) (G X ∷ E X ∷ []) (G X ∷ V X ∷ E X ∷ []) refl refl
-slots_of-fit VMOVSS_11 row = either_fits (is_memory row.kind) (E X ∷ G X ∷ []) (E X ∷ V X ∷ G X ∷ []) refl refl
-slots_of-fit VMOVSD_11 row = either_fits (is_memory row.kind) (E X ∷ G X ∷ []) (E X ∷ V X ∷ G X ∷ []) refl refl
-slots_of-fit _ row = search (fits_then, vector_fits, general_fits, element_fits, gather_fits)
+rule_fits : (row : Row) (slot : SlotRule) → slots_fit (slots_at row slot) ≡ true
+rule_fits row (slot_rule.G bank) = fits_then _ true (bank_fits row bank) refl
+rule_fits row (slot_rule.V bank) = fits_then _ true (bank_fits row bank) refl
+rule_fits row (slot_rule.VInRegister bank) = by (is_memory row.kind) where
+  by : (b : Bool) → slots_fit (if b then [] else V (bank_at row bank) ∷ []) ≡ true
+  by true = refl
+  by false = fits_then _ true (bank_fits row bank) refl
+rule_fits row (slot_rule.E bank) = fits_then _ true (bank_fits row bank) refl
+rule_fits row slot_rule.U8 = refl
+rule_fits row slot_rule.I8 = refl
+rule_fits row (slot_rule.R4 bank) = fits_then _ true (bank_fits row bank) refl
+
+rules_fit : (row : Row) (slots : List SlotRule) → slots_fit (flat_map (slots_at row) slots) ≡ true
+rules_fit row [] = refl
+rules_fit row (slot ∷ slots) = fits_append (slots_at row slot) (flat_map (slots_at row) slots) (rule_fits row slot) (rules_fit row slots)
 
 pub slots_fit_row : (row : Row) → slots_fit (slots row) ≡ true
 unfolding slots
-slots_fit_row row = slots_of-fit row.entry.form row
+slots_fit_row row = rules_fit row (items (form_row row.entry.form).slots)
 
 gather_index_fits : (l : ℕ) (o : Opcode) → has_sixteen (gather_index_bank l o) ≡ true
 gather_index_fits l (Integer integer.VPGATHERDQ) = refl
 gather_index_fits l (Float float.VGATHERDPD) = refl
 gather_index_fits l _ = vector_fits l
 
-index_bank_of-fits : (form : Form) (row : Row) → has_sixteen (index_bank_of form row) ≡ true
-index_bank_of-fits G_ExyL_V_xyLmm row = gather_index_fits row.l row.entry.opcode
-index_bank_of-fits Nothing row = refl
-index_bank_of-fits _ row = refl
-
 pub index_fits_row : (row : Row) → has_sixteen (index_bank row) ≡ true
 unfolding index_bank
-index_fits_row row = index_bank_of-fits row.entry.form row
-
-both_fit : (a b : Bool) → (a && b) ≡ true → (a ≡ true) × (b ≡ true)
-both_fit true b h = (refl, h)
-both_fit false b h = cc
+index_fits_row row = by (gathers row.entry.form) where
+  by : (b : Bool) → has_sixteen (if b then gather_index_bank row.l row.entry.opcode else Q) ≡ true
+  by true = gather_index_fits row.l row.entry.opcode
+  by false = refl
 
 -- where all slots fit, so does each
 pub slot_fits_at : (slots : List Slot) (i : ℕ) (s : Slot) → slots_fit slots ≡ true → i < length slots → slot_fits (get_or slots i s) ≡ true

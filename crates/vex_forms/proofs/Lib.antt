@@ -1,4 +1,4 @@
-pub mod Sound
+pub mod SizesFit
 pub mod Choices
 pub mod Choosing
 pub mod Fit

@@ -2,11 +2,12 @@
 
 ghost use Rattle.std.specs.Prelude.{◌≡◌, ◌/◌};
 ghost use Rattle.x86_address.specs.Follows.{Any, Decides};
+ghost use Rattle.vex_rows.specs.Few.{items};
 ghost use Rattle.vex_forms.specs.Fields.{fields_of};
 ghost use Rattle.vex_forms.specs.FormWalk.{check_all, kind_of_mod, passes, refusal};
 ghost use Rattle.vex_forms.specs.Reads.{kind_seen};
 
-use vex_rows::{Check, Entry, Prefix, groups_of, is_group};
+use vex_rows::{Check, Entry, Few, Prefix, row_of_form};
 use x86_operand::DecodeError;
 
 /// What stands in the place of the operand E.
@@ -34,6 +35,7 @@ impl Kind {
 }
 
 /// Whether a check passes, by the prefix, the kind of the operand E and the field reg.
+#[tactic(auto, unfolding(vex_rows::specs::Groups::groups))]
 fn passes(check: Check, entry: &Entry, prefix: &Prefix, kind: Kind, reg: u8) -> bool
     ensures { result ≡ passes entry.now (fields_of prefix.now) (kind_seen kind) reg check }
 {
@@ -42,7 +44,7 @@ fn passes(check: Check, entry: &Entry, prefix: &Prefix, kind: Kind, reg: u8) -> 
         Check::L0 => !prefix.l,
         Check::Reg => kind == Kind::Register,
         Check::Mem => kind == Kind::Memory,
-        Check::Group => is_group(groups_of(entry.form, prefix.l), reg),
+        Check::Group => row_of_form(entry.form).is_group(reg),
         Check::VifMem => kind != Kind::Memory || prefix.vvvv == 0,
     }
 }
@@ -59,8 +61,8 @@ fn refusal(check: Check) -> DecodeError
     }
 }
 
-/// Does the checks in order. The first that doesn't pass gives the error.
-pub fn do_checks(
+/// Does the checks of a slice in order.
+fn check_each(
     checks: &[Check],
     entry: &Entry,
     prefix: &Prefix,
@@ -75,4 +77,17 @@ pub fn do_checks(
         }
     }
     Ok(())
+}
+
+/// Does the checks in order. The first that doesn't pass gives the error.
+pub fn do_checks(
+    checks: Few<Check>,
+    entry: &Entry,
+    prefix: &Prefix,
+    kind: Kind,
+    reg: u8,
+) -> Result<(), DecodeError>
+    ensures { Decides (check_all entry.now (fields_of prefix.now) (kind_seen kind) reg (items checks)) Any result }
+{
+    check_each(checks.items().as_slice(), entry, prefix, kind, reg)
 }

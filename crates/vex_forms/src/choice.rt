@@ -1,15 +1,17 @@
 //! A choice of a row: an entry at one W, one L, one kind of the operand E, and one reg field.
 
-ghost use Rattle.std.specs.Prelude.{◌≡◌, find, ◌==◌, ◌&&◌, Some};
+ghost use Rattle.std.specs.Prelude.{◌≡◌, ◌&&◌};
 ghost use Rattle.std.specs.List.{list_all, list_any};
-ghost use Rattle.vex_rows.specs.Steps.{steps};
+ghost use Rattle.vex_rows.specs.Few.{items};
+ghost use Rattle.vex_rows.specs.FormRows.{form_row, gathers};
+ghost use Rattle.vex_rows.specs.Steps.{steps, steps_seen};
 ghost use Rattle.vex_rows.specs.Groups.{groups};
-ghost use Rattle.vex_rows.specs.Row.{exists, group_opcode, has_groups, has_imm, is_group_check, opcode_of, permits_choice};
-ghost use Rattle.vex_forms.specs.Slots.{demands_v, names_v, v_rule};
+ghost use Rattle.vex_rows.specs.Row.{exists, group_opcode, has_imm, opcode_of, permits_choice};
+ghost use Rattle.vex_forms.specs.Slots.{demands_v, names_v, slots, v_rule};
 ghost use Rattle.vex_forms.specs.Layout.{chosen, may_be, row_for};
 
 use crate::slot::{Slot, VvvvRule};
-use vex_rows::{Check, Entry, Form, groups_of, is_group, steps_of};
+use vex_rows::{Check, Entry, Few, FormRow, row_of_form};
 use x86_operand::Opcode;
 
 /// An entry at one W, one L, one kind of the operand E, and one reg field where its form has groups.
@@ -24,44 +26,9 @@ pub struct Choice {
     pub group: Option<u8>,
 }
 
-/// Whether a form has groups.
-#[tactic(auto, unfolding(vex_rows::specs::Row::has_groups))]
-fn has_groups(form: Form) -> bool
-    ensures { result ≡ has_groups form }
-{
-    steps_of(form)
-        .after_modrm
-        .iter()
-        .any(|check| is_group_check(*check))
-}
-
-/// Whether a check is that of the reg field.
-fn is_group_check(check: Check) -> bool
-    ensures { result ≡ is_group_check check }
-{
-    matches!(check, Check::Group)
-}
-
-/// The group of that reg field.
-fn group_at(groups: &[(u8, Opcode)], reg: u8) -> Option<(u8, Opcode)>
-    ensures { result ≡ find (λ group. group.0 == reg) groups.now }
-{
-    groups.iter().copied().find(|group| group.0 == reg)
-}
-
-/// The opcode of a group, the announced one where there is none.
-#[tactic(auto, using(crate::proofs::Choices::missing_group))]
-fn group_opcode(groups: &[(u8, Opcode)], reg: u8, announced: Opcode) -> Opcode
-    ensures { result ≡ group_opcode groups.now (Some reg) announced }
-{
-    match group_at(groups, reg) {
-        Some(group) => group.1,
-        None => announced,
-    }
-}
-
 impl Choice {
     /// The choice of an entry. Entries without groups don't look at `group`.
+    #[tactic(auto, unfolding(vex_rows::specs::Row::has_groups, vex_rows::specs::Steps::steps))]
     pub fn of(entry: &Entry, w: bool, l: bool, memory: bool, group: u8) -> Choice
         ensures row { chosen result ≡ row_for entry.now w l memory group }
         ensures entry { result.entry ≡ entry.now }
@@ -72,7 +39,7 @@ impl Choice {
             w,
             l,
             memory,
-            group: if has_groups(entry.form) {
+            group: if row_of_form(entry.form).has_groups() {
                 Some(group)
             } else {
                 None
@@ -80,11 +47,21 @@ impl Choice {
         }
     }
 
+    /// What the table of forms says of the entry's form.
+    pub fn form_row(&self) -> &'static FormRow
+        ensures row { result.now ≡ form_row self.now.entry.form }
+        ensures steps { steps_seen result.now ≡ steps self.now.entry.form }
+        ensures gathers { result.now.gathers ≡ gathers self.now.entry.form }
+    {
+        row_of_form(self.entry.form)
+    }
+
     /// Whether there is a ModRM byte.
+    #[tactic(auto, unfolding(vex_rows::specs::Steps::steps))]
     pub fn has_modrm(&self) -> bool
         ensures { result ≡ (steps self.now.entry.form).modrm }
     {
-        steps_of(self.entry.form).modrm
+        self.form_row().modrm
     }
 
     /// Whether the operand E can be where the choice has it: without ModRM it isn't in memory.
@@ -95,6 +72,7 @@ impl Choice {
     }
 
     /// Whether a check refuses no spelling of the row for its kind, L or group alone.
+    #[tactic(auto, unfolding(vex_rows::specs::Groups::groups))]
     fn permits(&self, check: Check) -> bool
         ensures { result ≡ permits_choice (chosen self.now) check }
     {
@@ -105,29 +83,38 @@ impl Choice {
             Check::Mem => self.has_modrm() && self.memory,
             Check::Group => match self.group {
                 None => true,
-                Some(reg) => is_group(groups_of(self.entry.form, self.l), reg),
+                Some(reg) => self.form_row().is_group(reg),
             },
         }
     }
 
     /// Whether no check refuses the row.
-    fn permits_all(&self, checks: &[Check]) -> bool
-        ensures { result ≡ list_all (permits_choice (chosen self.now)) checks.now }
+    fn permits_all(&self, checks: Few<Check>) -> bool
+        ensures { result ≡ list_all (permits_choice (chosen self.now)) (items checks) }
     {
-        checks.iter().all(|check| self.permits(*check))
+        match checks {
+            Few::Zero => true,
+            Few::One(a) => self.permits(a),
+            Few::Two(a, b) => self.permits(a) && self.permits(b),
+            Few::Three(a, b, c) => self.permits(a) && self.permits(b) && self.permits(c),
+            Few::Four(a, b, c, d) => self.permits(a)
+                && self.permits(b)
+                && self.permits(c)
+                && self.permits(d),
+        }
     }
 
     /// Whether the row exists: no rule and no check of its entry refuses it.
-    #[tactic(auto, unfolding(vex_rows::specs::Row::exists), using(crate::proofs::Choices::permits_append))]
+    #[tactic(auto, unfolding(vex_rows::specs::Row::exists, vex_rows::specs::Steps::steps), using(crate::proofs::Choices::permits_append))]
     fn exists(&self) -> bool
         ensures { result ≡ exists (chosen self.now) }
     {
-        let steps = steps_of(self.entry.form);
+        let row = self.form_row();
         self.entry.w.allows(self.w)
             && self.entry.l.allows(self.l)
-            && self.permits_all(steps.before_modrm)
-            && self.permits_all(steps.after_modrm)
-            && self.permits_all(steps.after_address)
+            && self.permits_all(row.before_modrm)
+            && self.permits_all(row.after_modrm)
+            && self.permits_all(row.after_address)
     }
 
     /// Whether the choice is a row: it is possible, and it exists.
@@ -138,35 +125,34 @@ impl Choice {
     }
 
     /// The opcode of the row's group, the one that the entry announces where it has no group.
+    #[tactic(auto, unfolding(vex_rows::specs::Groups::groups))]
     fn opcode_by_group(&self) -> Opcode
         ensures { result ≡ group_opcode (groups self.now.entry.form (chosen self.now).l) self.now.group self.now.entry.opcode }
     {
         match self.group {
-            Some(reg) => group_opcode(groups_of(self.entry.form, self.l), reg, self.entry.opcode),
+            Some(reg) => self.form_row().group_opcode(reg, self.entry.opcode),
             None => self.entry.opcode,
         }
     }
 
     /// The opcode of the row. Two forms go by the kind of the operand E, the others by their group.
-    #[tactic(auto, unfolding(vex_rows::specs::Row::opcode_of, vex_rows::specs::Steps::steps))]
+    #[tactic(auto, unfolding(vex_rows::specs::Row::opcode_of))]
     pub fn opcode(&self) -> Opcode
         ensures { result ≡ opcode_of (chosen self.now) }
     {
-        match self.entry.form {
-            Form::VMOVLPS_12 if self.memory => Opcode::VMOVLPS,
-            Form::VMOVLPS_12 => Opcode::VMOVHLPS,
-            Form::VMOVHPS_16 if self.memory => Opcode::VMOVHPS,
-            Form::VMOVHPS_16 => Opcode::VMOVLHPS,
-            _ => self.opcode_by_group(),
+        match self.form_row().opcodes {
+            Some(both) if self.memory && self.has_modrm() => both.1,
+            Some(both) => both.0,
+            None => self.opcode_by_group(),
         }
     }
 
     /// Whether there is an immediate byte.
-    #[tactic(auto, unfolding(vex_rows::specs::Row::has_imm))]
+    #[tactic(auto, unfolding(vex_rows::specs::Row::has_imm, vex_rows::specs::Steps::steps))]
     pub fn has_imm(&self) -> bool
         ensures { result ≡ has_imm (chosen self.now) }
     {
-        steps_of(self.entry.form).imm
+        self.form_row().imm
     }
 
     /// Whether a check demands that vvvv is 0, for the row's kind of operand E.
@@ -181,23 +167,35 @@ impl Choice {
     }
 
     /// Whether one of the checks demands that vvvv is 0.
-    fn any_demands_zero(&self, checks: &[Check]) -> bool
-        ensures { result ≡ list_any (demands_v (chosen self.now).kind) checks.now }
+    fn any_demands_zero(&self, checks: Few<Check>) -> bool
+        ensures { result ≡ list_any (demands_v (chosen self.now).kind) (items checks) }
     {
-        checks.iter().any(|check| self.demands_zero(*check))
+        match checks {
+            Few::Zero => false,
+            Few::One(a) => self.demands_zero(a),
+            Few::Two(a, b) => self.demands_zero(a) || self.demands_zero(b),
+            Few::Three(a, b, c) => self.demands_zero(a)
+                || self.demands_zero(b)
+                || self.demands_zero(c),
+            Few::Four(a, b, c, d) => self.demands_zero(a)
+                || self.demands_zero(b)
+                || self.demands_zero(c)
+                || self.demands_zero(d),
+        }
     }
 
-    /// What the row asks of the field vvvv: it names an operand, or it is 0 since a check demands it, or it plays no
-    /// part.
-    #[tactic(auto, unfolding(crate::specs::Slots::v_rule))]
-    pub fn vvvv_rule(&self) -> VvvvRule
+    /// What the row asks of the field vvvv, where these are its slots: it names an operand, or it is 0 since a check
+    /// demands it, or it plays no part.
+    #[tactic(auto, unfolding(crate::specs::Slots::v_rule, vex_rows::specs::Steps::steps))]
+    pub fn vvvv_rule(&self, row_slots: &[Slot]) -> VvvvRule
+        requires { row_slots.now ≡ slots (chosen self.now) }
         ensures { result ≡ v_rule (chosen self.now) }
     {
-        let steps = steps_of(self.entry.form);
-        if names_vvvv(self.slots().as_slice()) {
+        let row = self.form_row();
+        if names_vvvv(row_slots) {
             VvvvRule::Named
-        } else if self.any_demands_zero(steps.before_modrm)
-            || self.any_demands_zero(steps.after_address)
+        } else if self.any_demands_zero(row.before_modrm)
+            || self.any_demands_zero(row.after_address)
         {
             VvvvRule::Zero
         } else {

@@ -14,7 +14,7 @@ use crate::instruction::instruction_of;
 use crate::operand_e::OperandE;
 use crate::operand_fields::OperandFields;
 use crate::row_layout::layout;
-use vex_rows::{Entry, Prefix, Steps, steps_of};
+use vex_rows::{Entry, FormRow, Prefix, row_of_form};
 use x86_address::{read_address, read_imm, read_modrm};
 use x86_operand::{DecodeError, Instruction};
 use x86_reader::Reader;
@@ -45,7 +45,7 @@ fn read_imm_if<R: Reader>(has_imm: bool, words: &mut R) -> Result<u8, DecodeErro
 
 /// Does the steps of a form from ModRM on.
 fn read_from_modrm<R: Reader>(
-    form: &Steps,
+    form: &FormRow,
     entry: &Entry,
     prefix: &Prefix,
     words: &mut R,
@@ -72,7 +72,7 @@ fn read_from_modrm<R: Reader>(
 
 /// Does the steps of a form without ModRM.
 fn read_alone<R: Reader>(
-    form: &Steps,
+    form: &FormRow,
     prefix: &Prefix,
     words: &mut R,
 ) -> Result<OperandFields, DecodeError>
@@ -101,12 +101,12 @@ fn read_operands<R: Reader>(
     ensures { Follows (walk_form entry.now (fields_of prefix.now)) (IsOperands prefix.now)
         (R.state words.old) (R.state words.new) result }
 {
-    let form = steps_of(entry.form);
+    let form = row_of_form(entry.form);
     do_checks(form.before_modrm, entry, prefix, Kind::WithoutModRM, 0)?;
     if form.modrm {
-        read_from_modrm(&form, entry, prefix, words)
+        read_from_modrm(form, entry, prefix, words)
     } else {
-        read_alone(&form, prefix, words)
+        read_alone(form, prefix, words)
     }
 }
 

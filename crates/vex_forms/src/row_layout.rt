@@ -53,10 +53,12 @@ impl Choice {
     fn layout(&self) -> RowLayout
         ensures { IsLayout (chosen self.now) result }
     {
+        let slots = self.slots();
+        let vvvv = self.vvvv_rule(slots.as_slice());
         RowLayout {
             opcode: self.opcode(),
-            slots: self.slots(),
-            vvvv: self.vvvv_rule(),
+            slots,
+            vvvv,
             mem_size: self.memory_size(),
             index_bank: self.index_bank(),
             has_modrm: self.has_modrm(),

@@ -1,14 +1,14 @@
-//! The slots of each form, and the banks of the registers that they name.
+//! The slots of a row, and the banks of the registers that they name.
 
-ghost use Rattle.std.specs.Prelude.{◌≡◌, [], ◌∷◌, if◌then◌else◌};
+ghost use Rattle.std.specs.Prelude.{◌≡◌, ◌<◌, ◌≤◌, ◌+◌, ◌++◌, if◌then◌else◌};
+ghost use Rattle.arrayvec.specs.ArrayVec.{array_vec_len};
 ghost use Rattle.vex_forms.specs.Layout.{chosen};
-ghost use Rattle.vex_forms.specs.Slots.{element_bank, gather_bank, gather_index_bank, general, index_bank, slots, vector};
+ghost use Rattle.vex_forms.specs.Slots.{bank_at, element_bank, gather_bank, gather_index_bank, general, index_bank, slots, slots_at, vector};
 
 use crate::choice::Choice;
 use crate::slot::Slot;
-use crate::slot::Slot::{E, G, I8, R4, U8, V};
 use arrayvec::ArrayVec;
-use vex_rows::Form;
+use vex_rows::{BankRule, Few, SlotRule};
 use x86_operand::RegisterBank::{D, Q, X, Y};
 use x86_operand::{Opcode, RegisterBank};
 
@@ -56,109 +56,67 @@ fn gather_index_bank(l: bool, opcode: Opcode) -> RegisterBank
     }
 }
 
-fn one(first: Slot) -> ArrayVec<Slot, 4>
-    ensures { result.items ≡ first ∷ [] }
-{
-    let mut slots = ArrayVec::new();
-    slots.push(first);
-    slots
-}
-
-fn two(first: Slot, second: Slot) -> ArrayVec<Slot, 4>
-    ensures { result.items ≡ first ∷ second ∷ [] }
-{
-    let mut slots = one(first);
-    slots.push(second);
-    slots
-}
-
-fn three(first: Slot, second: Slot, third: Slot) -> ArrayVec<Slot, 4>
-    ensures { result.items ≡ first ∷ second ∷ third ∷ [] }
-{
-    let mut slots = two(first, second);
-    slots.push(third);
-    slots
-}
-
-fn four(first: Slot, second: Slot, third: Slot, fourth: Slot) -> ArrayVec<Slot, 4>
-    ensures { result.items ≡ first ∷ second ∷ third ∷ fourth ∷ [] }
-{
-    let mut slots = three(first, second, third);
-    slots.push(fourth);
-    slots
-}
-
 impl Choice {
+    /// The bank that the form names.
+    fn bank(&self, rule: BankRule) -> RegisterBank
+        ensures { result ≡ bank_at (chosen self.now) rule }
+    {
+        match rule {
+            BankRule::X => X,
+            BankRule::Y => Y,
+            BankRule::D => D,
+            BankRule::Q => Q,
+            BankRule::ByL => vector(self.l),
+            BankRule::ByW => general(self.w),
+            BankRule::Element => element_bank(self.entry.opcode),
+            BankRule::Gather => gather_bank(self.l, self.entry.opcode),
+        }
+    }
+
+    /// Adds the slot that the form names, where the row has it.
+    fn add(&self, slots: &mut ArrayVec<Slot, 4>, rule: SlotRule)
+        requires { array_vec_len slots.old < 4 }
+        ensures items { slots.new.items ≡ slots.old.items ++ slots_at (chosen self.now) rule }
+        ensures at_most_one { array_vec_len slots.new ≤ array_vec_len slots.old + 1 }
+    {
+        slots.push(match rule {
+            SlotRule::G(bank) => Slot::G(self.bank(bank)),
+            SlotRule::V(bank) => Slot::V(self.bank(bank)),
+            SlotRule::VInRegister(_) if self.memory && self.has_modrm() => return,
+            SlotRule::VInRegister(bank) => Slot::V(self.bank(bank)),
+            SlotRule::E(bank) => Slot::E(self.bank(bank)),
+            SlotRule::U8 => Slot::U8,
+            SlotRule::I8 => Slot::I8,
+            SlotRule::R4(bank) => Slot::R4(self.bank(bank)),
+        });
+    }
+
     /// The slots of the row, one for each operand in order.
-    #[tactic(auto, unfolding(crate::specs::Slots::slots, vex_rows::specs::Steps::steps))]
+    #[tactic(auto, unfolding(crate::specs::Slots::slots))]
     pub fn slots(&self) -> ArrayVec<Slot, 4>
         ensures { result.items ≡ slots (chosen self.now) }
     {
-        let vector = vector(self.l);
-        let general = general(self.w);
-        let element = element_bank(self.entry.opcode);
-        let gathered = gather_bank(self.l, self.entry.opcode);
-        match self.entry.form {
-            Form::Nothing => ArrayVec::new(),
-            Form::VPS_71 | Form::VPS_72 | Form::VPS_73 => three(V(vector), E(vector), I8),
-            Form::VMOVSS_10 | Form::VMOVSD_10 if self.memory => two(G(X), E(X)),
-            Form::VMOVSS_10 | Form::VMOVSD_10 => three(G(X), V(X), E(X)),
-            Form::VMOVSS_11 | Form::VMOVSD_11 if self.memory => two(E(X), G(X)),
-            Form::VMOVSS_11 | Form::VMOVSD_11 => three(E(X), V(X), G(X)),
-            Form::VMOVLPS_12 | Form::VMOVHPS_16 => three(G(X), V(X), E(X)),
-            Form::Ev_G_xmm_imm8 => three(E(element), G(X), U8),
-            Form::G_xmm_Ed => two(G(X), E(D)),
-            Form::G_xmm_Eq => two(G(X), E(Q)),
-            Form::Ed_G_xmm => two(E(D), G(X)),
-            Form::Eq_G_xmm => two(E(Q), G(X)),
-            Form::VCVT_Gd_Ed_xmm | Form::VCVT_Gd_Eq_xmm | Form::Gd_U_xmm => two(G(D), E(X)),
-            Form::VCVT_Gq_Ed_xmm | Form::VCVT_Gq_Eq_xmm => two(G(Q), E(X)),
-            Form::M_G_xmm => two(E(X), G(X)),
-            Form::M_G_xyLmm | Form::E_G_xyLmm => two(E(vector), G(vector)),
-            Form::M_G_ymm => two(E(Y), G(Y)),
-            Form::Ud_G_xyLmm => two(G(D), E(vector)),
-            Form::Gd_U_ymm => two(G(D), E(Y)),
-            Form::Ud_G_xmm_imm8 => three(G(D), E(X), U8),
-            Form::E_G_xmm_imm8 => three(E(X), G(X), U8),
-            Form::E_xmm_G_ymm_imm8 => three(E(X), G(Y), U8),
-            Form::G_M_xmm | Form::G_E_xmm | Form::G_U_xmm_vmaskmovdqu | Form::G_xmm_E_xmm => two(
-                G(X),
-                E(X),
-            ),
-            Form::G_M_ymm | Form::G_E_ymm | Form::G_ymm_E_ymm => two(G(Y), E(Y)),
-            Form::G_ymm_M_xmm | Form::G_ymm_E_xmm => two(G(Y), E(X)),
-            Form::G_xmm_E_ymm => two(G(X), E(Y)),
-            Form::G_E_xyLmm => two(G(vector), E(vector)),
-            Form::G_Lmm_E_xmm => two(G(vector), E(X)),
-            Form::G_E_xyLmm_imm8 => three(G(vector), E(vector), U8),
-            Form::G_E_xmm_imm8 => three(G(X), E(X), U8),
-            Form::G_E_ymm_imm8 => three(G(Y), E(Y), U8),
-            Form::G_V_E_xyLmm => three(G(vector), V(vector), E(vector)),
-            Form::G_V_E_ymm | Form::G_V_M_ymm => three(G(Y), V(Y), E(Y)),
-            Form::G_V_ymm_E_xmm => three(G(Y), V(Y), E(X)),
-            Form::G_V_E_xmm | Form::G_V_Ed_xmm | Form::G_V_Eq_xmm | Form::G_V_M_xmm => three(
-                G(X),
-                V(X),
-                E(X),
-            ),
-            Form::G_V_xmm_Ed => three(G(X), V(X), E(D)),
-            Form::G_V_xmm_Eq => three(G(X), V(X), E(Q)),
-            Form::M_V_G_xmm => three(E(X), V(X), G(X)),
-            Form::M_V_G_ymm => three(E(Y), V(Y), G(Y)),
-            Form::G_V_E_xyLmm_imm8 => four(G(vector), V(vector), E(vector), U8),
-            Form::G_V_E_xmm_imm8 => four(G(X), V(X), E(X), U8),
-            Form::G_V_E_ymm_imm8 => four(G(Y), V(Y), E(Y), U8),
-            Form::G_ymm_V_ymm_E_xmm_imm8 => four(G(Y), V(Y), E(X), U8),
-            Form::G_V_E_xmm_xmm4 => four(G(X), V(X), E(X), R4(X)),
-            Form::G_V_E_ymm_ymm4 => four(G(Y), V(Y), E(Y), R4(Y)),
-            Form::G_V_xmm_Ev_imm8 => four(G(X), V(X), E(element), I8),
-            Form::G_V_E => three(G(general), V(general), E(general)),
-            Form::G_E_V => three(G(general), E(general), V(general)),
-            Form::G_E_Ib => three(G(general), E(general), I8),
-            Form::BMI1_F3 => two(V(general), E(general)),
-            Form::MXCSR => one(E(D)),
-            Form::G_ExyL_V_xyLmm => three(G(gathered), E(gathered), V(gathered)),
+        let mut slots = ArrayVec::new();
+        match self.form_row().slots {
+            Few::Zero => {}
+            Few::One(a) => self.add(&mut slots, a),
+            Few::Two(a, b) => {
+                self.add(&mut slots, a);
+                self.add(&mut slots, b);
+            }
+            Few::Three(a, b, c) => {
+                self.add(&mut slots, a);
+                self.add(&mut slots, b);
+                self.add(&mut slots, c);
+            }
+            Few::Four(a, b, c, d) => {
+                self.add(&mut slots, a);
+                self.add(&mut slots, b);
+                self.add(&mut slots, c);
+                self.add(&mut slots, d);
+            }
         }
+        slots
     }
 
     /// The bank of the index of an address: a vector register where the form gathers, and `Q` elsewhere.
@@ -166,9 +124,10 @@ impl Choice {
     pub fn index_bank(&self) -> RegisterBank
         ensures { result ≡ index_bank (chosen self.now) }
     {
-        match self.entry.form {
-            Form::G_ExyL_V_xyLmm => gather_index_bank(self.l, self.entry.opcode),
-            _ => Q,
+        if self.form_row().gathers {
+            gather_index_bank(self.l, self.entry.opcode)
+        } else {
+            Q
         }
     }
 }

@@ -6,6 +6,7 @@ use Rattle.vex_rows.specs.declared.entry.Entry.{Entry}
 use Rattle.vex_rows.specs.declared.form.Form.{Form}
 use Rattle.vex_rows.specs.declared.key.Key.{Key}
 use Rattle.vex_rows.specs.Rules.{has_key}
+use Rattle.vex_rows.specs.FormRows.{form_row}
 use Rattle.vex_rows.specs.Steps.{steps}
 use Rattle.vex_rows.specs.Groups.{groups}
 use Rattle.vex_rows.specs.Table.{table}
@@ -28,6 +29,10 @@ RowsHaveEntries = (row : Row) → IsRow row → Among row.entry (entries_with (o
 -- an entry of an opcode stands in the table and has a row that gives the opcode
 abbrev pub EntriesHaveRows : Type 0
 EntriesHaveRows = (entry : Entry) (opcode : Opcode) → Among entry (entries_with opcode) → Among entry table × ((row : Row) × IsRow row × (row.entry ≡ entry) × (same_opcode (opcode_of row) opcode ≡ true))
+
+-- each row of the table of forms is that of the form which it names
+abbrev pub FormsAreInOrder : Type 0
+FormsAreInOrder = (form : Form) → (form_row form).form ≡ form
 
 -- the steps of every form are in order
 abbrev pub FormsAreOrderly : Type 0

@@ -1,3 +1,5 @@
+pub mod Few
+pub mod FormRows
 pub mod Steps
 pub mod Rules
 pub mod Table

@@ -3,15 +3,13 @@ pub mod Laws
 use Rattle.std.specs.Prelude.{◌≡◌, ◌⊎◌, ℕ, Bool, true, false, ◌&&◌, ◌==◌, List, [], ◌∷◌, ◌++◌, map, filter, flat_map, Option, Some, None, if◌then◌else◌}
 use Rattle.std.specs.List.{list_all, list_any}
 use Rattle.x86_opcode.specs.declared.Opcode.{Opcode}
-use Rattle.x86_opcode.specs.declared.Opcode.TheVariants.{Float}
-use Rattle.x86_opcode.specs.declared.FloatOpcode.TheVariants as float
 use Rattle.x86_operand.specs.Kind.{Kind, WithoutModRM, InRegister, InMemory}
 use Rattle.vex_rows.specs.declared.entry.Entry.{Entry}
 use Rattle.vex_rows.specs.declared.form.Form.{Form}
-use Rattle.vex_rows.specs.declared.form.Form.TheVariants.{VMOVLPS_12, VMOVHPS_16}
 use Rattle.vex_rows.specs.Rules.{allows}
 use Rattle.vex_rows.specs.declared.steps.Check.{Check}
 use Rattle.vex_rows.specs.declared.steps.Check.TheVariants.{V0, L0, Reg, Mem, Group, VifMem}
+use Rattle.vex_rows.specs.FormRows.{form_row}
 use Rattle.vex_rows.specs.Steps.{steps}
 use Rattle.vex_rows.specs.Groups.{groups}
 use Rattle.vex_rows.specs.Table.{table}
@@ -73,15 +71,14 @@ permits_choice row Mem = is_memory row.kind
 permits_choice row Group = group_allowed row.entry.form row.l row.group
 permits_choice row VifMem = true
 
--- the opcode of a form by its kind and group; of most forms it is the one that the entry announces
-abbrev pub opcode_by : Form → Row → Opcode
-opcode_by VMOVLPS_12 row = if is_memory row.kind then Float float.VMOVLPS else Float float.VMOVHLPS
-opcode_by VMOVHPS_16 row = if is_memory row.kind then Float float.VMOVHPS else Float float.VMOVLHPS
-opcode_by form row = group_opcode (groups form row.l) row.group row.entry.opcode
+-- the opcode by the kind of the operand E, where a form has one for each, and else by the group
+abbrev pub opcode_by : Option (Opcode × Opcode) → Row → Opcode
+opcode_by (Some both) row = if is_memory row.kind then both.1 else both.0
+opcode_by None row = group_opcode (groups row.entry.form row.l) row.group row.entry.opcode
 
 -- the opcode of a row
 unfoldable pub opcode_of : Row → Opcode
-opcode_of row = opcode_by row.entry.form row
+opcode_of row = opcode_by (form_row row.entry.form).opcodes row
 
 -- whether no rule and no check of its entry refuses a row's W, L, kind and group; of the choices below, those are the
 -- rows

@@ -2,7 +2,7 @@
 //! empty.
 
 ghost use Rattle.vex_rows.specs.Laws.{KeysAreApart, TableIsInOrder, RowsHaveEntries, EntriesHaveRows};
-ghost use Rattle.vex_rows.specs.Laws.{FormsAreOrderly, GroupsAreFields};
+ghost use Rattle.vex_rows.specs.Laws.{FormsAreInOrder, FormsAreOrderly, GroupsAreFields};
 
 /// Of all entries at most one has a key.
 pub fn keys_are_apart()
@@ -22,6 +22,11 @@ pub fn rows_have_entries()
 /// An entry of an opcode stands in the table, and has a row that gives the opcode.
 pub fn entries_have_rows()
     ensures { EntriesHaveRows }
+{}
+
+/// Each row of the table of forms is that of the form which it names.
+pub fn forms_are_in_order()
+    ensures { FormsAreInOrder }
 {}
 
 /// The steps of every form are in order: checks of prefix fields, ModRM, checks of ModRM, the address, and late checks.

@@ -4,20 +4,26 @@
 mod cells;
 mod entries;
 mod entry;
+mod few;
 mod form;
-mod groups;
+mod form_row;
+mod forms;
 mod key;
 pub mod laws;
 mod places;
+mod sizes;
 mod steps;
 mod table;
 
 pub use entries::{entries_of, entry_at, entry_count, lookup};
 pub use entry::{Entry, Rule};
+pub use few::Few;
 pub use form::Form;
-pub use groups::{groups_of, is_group};
+pub use form_row::{BankRule, ByteCount, FormRow, SizeList, SizeRule, SlotRule};
+pub use forms::row_of_form;
 pub use key::{Key, Map, Pp, Prefix};
-pub use steps::{Check, Steps, steps_of};
+pub use sizes::sizes_of;
+pub use steps::Check;
 
 #[cfg(test)]
 mod tests;

@@ -5,8 +5,8 @@ ghost use Rattle.vex_rows.specs.Table.{table};
 
 use crate::Check::{Group, L0, Mem, Reg, V0, VifMem};
 use crate::{
-    Check, Entry, Form, Key, Map, Pp, entries_of, entry_at, entry_count, groups_of, laws, lookup,
-    steps_of,
+    Check, Entry, Form, Key, Map, Pp, entries_of, entry_at, entry_count, laws, lookup,
+    row_of_form,
 };
 use arrayvec::ArrayVec;
 use std::marker::Brand;
@@ -138,55 +138,261 @@ fn opcodes_have_their_entries(rt: HostRuntime) -> Result<(), Fail> {
     Ok(())
 }
 
+// The steps of each form: the checks before ModRM, whether there is a ModRM byte, the checks after it, whether an address
+// is read, the checks after it, and whether there is an immediate byte.
+static STEPS: [(&[Form], &[Check], bool, &[Check], bool, &[Check], bool); 17] = [
+    (&[Form::Nothing], &[V0], false, &[], false, &[], false),
+    (
+        &[Form::VPS_71, Form::VPS_72, Form::VPS_73],
+        &[],
+        true,
+        &[Reg, Group],
+        false,
+        &[],
+        true,
+    ),
+    (
+        &[
+            Form::VMOVSS_10,
+            Form::VMOVSD_10,
+            Form::VMOVSS_11,
+            Form::VMOVSD_11,
+        ],
+        &[],
+        true,
+        &[],
+        true,
+        &[VifMem],
+        false,
+    ),
+    (
+        &[
+            Form::VMOVLPS_12,
+            Form::VMOVHPS_16,
+            Form::G_V_E_ymm,
+            Form::G_V_ymm_E_xmm,
+            Form::G_V_E_xmm,
+            Form::G_V_Ed_xmm,
+            Form::G_V_Eq_xmm,
+            Form::G_V_xmm_Ed,
+            Form::G_V_xmm_Eq,
+            Form::G_V_E,
+            Form::G_E_V,
+        ],
+        &[],
+        true,
+        &[],
+        true,
+        &[],
+        false,
+    ),
+    (
+        &[
+            Form::Ev_G_xmm_imm8,
+            Form::E_G_xmm_imm8,
+            Form::E_xmm_G_ymm_imm8,
+            Form::G_E_xyLmm_imm8,
+            Form::G_E_ymm_imm8,
+        ],
+        &[V0],
+        true,
+        &[],
+        true,
+        &[],
+        true,
+    ),
+    (
+        &[
+            Form::G_xmm_Ed,
+            Form::G_xmm_Eq,
+            Form::Ed_G_xmm,
+            Form::Eq_G_xmm,
+            Form::VCVT_Gd_Ed_xmm,
+            Form::VCVT_Gd_Eq_xmm,
+            Form::VCVT_Gq_Ed_xmm,
+            Form::VCVT_Gq_Eq_xmm,
+            Form::G_E_xmm,
+            Form::G_xmm_E_xmm,
+            Form::G_xmm_E_ymm,
+            Form::G_E_ymm,
+            Form::G_ymm_E_ymm,
+            Form::G_ymm_E_xmm,
+            Form::G_Lmm_E_xmm,
+        ],
+        &[V0],
+        true,
+        &[],
+        true,
+        &[],
+        false,
+    ),
+    (
+        &[
+            Form::M_G_xmm,
+            Form::M_G_xyLmm,
+            Form::M_G_ymm,
+            Form::G_M_xmm,
+            Form::G_M_ymm,
+            Form::G_ymm_M_xmm,
+        ],
+        &[V0],
+        true,
+        &[Mem],
+        true,
+        &[],
+        false,
+    ),
+    (
+        &[Form::Ud_G_xyLmm, Form::Gd_U_xmm, Form::Gd_U_ymm],
+        &[V0],
+        true,
+        &[],
+        true,
+        &[Reg],
+        false,
+    ),
+    (&[Form::Ud_G_xmm_imm8], &[V0], true, &[], true, &[Reg], true),
+    (
+        &[Form::G_U_xmm_vmaskmovdqu],
+        &[V0],
+        true,
+        &[Reg],
+        false,
+        &[],
+        false,
+    ),
+    // The check of a register stands in the place of the address here.
+    (
+        &[Form::G_E_xyLmm, Form::E_G_xyLmm],
+        &[V0],
+        true,
+        &[Reg],
+        false,
+        &[],
+        false,
+    ),
+    (&[Form::G_V_E_xyLmm], &[], true, &[Reg], false, &[], false),
+    (&[Form::G_E_xmm_imm8], &[V0, L0], true, &[], true, &[], true),
+    (
+        &[
+            Form::G_V_M_xmm,
+            Form::G_V_M_ymm,
+            Form::M_V_G_xmm,
+            Form::M_V_G_ymm,
+            Form::G_ExyL_V_xyLmm,
+        ],
+        &[],
+        true,
+        &[Mem],
+        true,
+        &[],
+        false,
+    ),
+    (
+        &[
+            Form::G_V_E_xyLmm_imm8,
+            Form::G_V_E_xmm_imm8,
+            Form::G_V_E_ymm_imm8,
+            Form::G_ymm_V_ymm_E_xmm_imm8,
+            Form::G_V_E_xmm_xmm4,
+            Form::G_V_E_ymm_ymm4,
+            Form::G_V_xmm_Ev_imm8,
+            Form::G_E_Ib,
+        ],
+        &[],
+        true,
+        &[],
+        true,
+        &[],
+        true,
+    ),
+    (&[Form::BMI1_F3], &[], true, &[Group], true, &[], false),
+    (&[Form::MXCSR], &[], true, &[Group, Mem], true, &[], false),
+];
+
 #[test]
 fn forms_have_their_steps(rt: HostRuntime) -> Result<(), Fail> {
-    let wanted: [(Form, &[Check], bool, &[Check], bool, &[Check], bool); 12] = [
-        (Form::Nothing, &[V0], false, &[], false, &[], false),
-        (Form::VPS_72, &[], true, &[Reg, Group], false, &[], true),
-        (Form::VMOVSS_11, &[], true, &[], true, &[VifMem], false),
-        (Form::VMOVLPS_12, &[], true, &[], true, &[], false),
-        (Form::M_G_xmm, &[V0], true, &[Mem], true, &[], false),
-        (Form::Gd_U_xmm, &[V0], true, &[], true, &[Reg], false),
-        (Form::Ud_G_xmm_imm8, &[V0], true, &[], true, &[Reg], true),
-        (Form::G_E_xmm_imm8, &[V0, L0], true, &[], true, &[], true),
-        (Form::M_V_G_ymm, &[], true, &[Mem], true, &[], false),
-        (Form::G_E_Ib, &[], true, &[], true, &[], true),
-        (Form::BMI1_F3, &[], true, &[Group], true, &[], false),
-        (Form::MXCSR, &[], true, &[Group, Mem], true, &[], false),
-    ];
-    for (form, first, modrm, second, address, third, imm) in wanted {
-        let steps = steps_of(form);
-        assert_eq!(rt; steps.before_modrm, first, "{form:?}");
-        assert_eq!(rt; steps.modrm, modrm, "{form:?}");
-        assert_eq!(rt; steps.after_modrm, second, "{form:?}");
-        assert_eq!(rt; steps.address, address, "{form:?}");
-        assert_eq!(rt; steps.after_address, third, "{form:?}");
-        assert_eq!(rt; steps.imm, imm, "{form:?}");
+    let mut seen = [false; 69];
+    for (of_forms, before_modrm, modrm, after_modrm, address, after_address, imm) in STEPS {
+        for form in of_forms {
+            let row = row_of_form(*form);
+            seen[*form as usize] = true;
+            assert_eq!(rt; row.form, *form);
+            assert_eq!(rt;
+                row.before_modrm.items().as_slice(),
+                before_modrm,
+                "{form:?}"
+            );
+            assert_eq!(rt; row.modrm, modrm, "{form:?}");
+            assert_eq!(rt; row.after_modrm.items().as_slice(), after_modrm, "{form:?}");
+            assert_eq!(rt; row.address, address, "{form:?}");
+            assert_eq!(rt;
+                row.after_address.items().as_slice(),
+                after_address,
+                "{form:?}"
+            );
+            assert_eq!(rt; row.imm, imm, "{form:?}");
+            assert_eq!(rt; row.gathers, *form == Form::G_ExyL_V_xyLmm, "{form:?}");
+        }
     }
+    assert!(rt; seen.iter().all(|form| *form));
     Ok(())
 }
 
+// The reg fields of each form that has groups, with their opcodes.
+static GROUPS: [(Form, &[(u8, Opcode)]); 5] = [
+    (
+        Form::VPS_71,
+        &[
+            (2, Opcode::VPSRLW),
+            (4, Opcode::VPSRAW),
+            (6, Opcode::VPSLLW),
+        ],
+    ),
+    (
+        Form::VPS_72,
+        &[
+            (2, Opcode::VPSRLD),
+            (4, Opcode::VPSRAD),
+            (6, Opcode::VPSLLD),
+        ],
+    ),
+    (
+        Form::VPS_73,
+        &[
+            (2, Opcode::VPSRLQ),
+            (3, Opcode::VPSRLDQ),
+            (6, Opcode::VPSLLQ),
+            (7, Opcode::VPSLLDQ),
+        ],
+    ),
+    (
+        Form::BMI1_F3,
+        &[(1, Opcode::BLSR), (2, Opcode::BLSMSK), (3, Opcode::BLSI)],
+    ),
+    (Form::MXCSR, &[(2, Opcode::VLDMXCSR), (3, Opcode::VSTMXCSR)]),
+];
+
 #[test]
 fn forms_have_their_groups(rt: HostRuntime) -> Result<(), Fail> {
-    for (form, l, reg, opcode) in [
-        (Form::VPS_71, false, 1, Some(Opcode::VPSLLW)),
-        (Form::VPS_71, true, 1, None),
-        (Form::VPS_71, true, 6, Some(Opcode::VPSLLW)),
-        (Form::VPS_71, true, 4, Some(Opcode::VPSRAW)),
-        (Form::VPS_72, false, 2, Some(Opcode::VPSRLD)),
-        (Form::VPS_73, true, 7, Some(Opcode::VPSLLDQ)),
-        (Form::VPS_73, true, 4, None),
-        (Form::BMI1_F3, false, 3, Some(Opcode::BLSI)),
-        (Form::MXCSR, false, 3, Some(Opcode::VSTMXCSR)),
-        (Form::G_V_E, false, 1, None),
-    ] {
-        let groups = groups_of(form, l);
-        let found = groups
-            .iter()
-            .find(|group| group.0 == reg)
-            .map(|group| group.1);
-        assert_eq!(rt; found, opcode, "{form:?} {reg}");
+    for (form, groups) in GROUPS {
+        let row = row_of_form(form);
+        assert!(rt; row.has_groups(), "{form:?}");
+        for reg in 0..8 {
+            let found = groups
+                .iter()
+                .find(|group| group.0 == reg)
+                .map(|group| group.1);
+            assert_eq!(rt; row.is_group(reg), found.is_some(), "{form:?} {reg}");
+            assert_eq!(rt;
+                row.group_opcode(reg, Opcode::BSF),
+                found.unwrap_or(Opcode::BSF),
+                "{form:?} {reg}"
+            );
+        }
     }
+    assert!(rt; !row_of_form(Form::G_V_E).has_groups());
+    assert!(rt; !row_of_form(Form::G_V_E).is_group(1));
     Ok(())
 }
 
@@ -196,6 +402,7 @@ fn laws_can_be_called() {
     laws::table_is_in_order();
     laws::rows_have_entries();
     laws::entries_have_rows();
+    laws::forms_are_in_order();
     laws::forms_are_orderly();
     laws::groups_are_fields();
 }

@@ -2,7 +2,8 @@
 use Rattle.std.specs.Prelude.{◌≡◌, refl, ◌≤◌, nat_le, length, Bool, true, false, not, ◌&&◌, ◌||◌, if◌then◌else◌}
 use Rattle.x86_operand.specs.Kind.{Kind, WithoutModRM, InRegister, InMemory}
 use Rattle.vex_rows.specs.declared.form.Form.{Form}
-use Rattle.vex_rows.specs.declared.form.Form.TheVariants.{Nothing, VMOVSS_10, VMOVSD_10, VMOVSS_11, VMOVSD_11}
+use Rattle.vex_rows.specs.declared.form.Form.TheVariants.{Nothing}
+use Rattle.vex_rows.specs.FormRows.{form_row}
 use Rattle.vex_rows.specs.Steps.{steps}
 use Rattle.vex_rows.specs.Row.{Row, row_at, has_groups}
 use Rattle.std.specs.List.{list_any}
@@ -12,47 +13,86 @@ use Rattle.vex_forms.specs.declared.slot.VvvvRule.TheVariants.{Named, Zero, Free
 use Rattle.vex_forms.specs.Slots.{slots, slots_of, names_g, names_v, demands_v, v_rule}
 use Rattle.vex_forms.specs.Tests.{is_sound, is_distinct, is_free, immediates, has_few}
 
--- by the kind of a row, for the forms whose slots depend on it
+-- by the kind of a row, on which the slots of some forms depend
 by_kind : (test : Kind → Bool) → test WithoutModRM ≡ true → test InRegister ≡ true → test InMemory ≡ true → (kind : Kind) → test kind ≡ true
 by_kind test a b c WithoutModRM = a
 by_kind test a b c InRegister = b
 by_kind test a b c InMemory = c
 
+sound_without : (form : Form) (row : Row) → is_sound form (row_at row.entry row.w row.l WithoutModRM row.group) ≡ true
+unfolding steps form_row
+sound_without Nothing row = refl
+sound_without _ row = refl
+
+sound_register : (form : Form) (row : Row) → is_sound form (row_at row.entry row.w row.l InRegister row.group) ≡ true
+unfolding steps form_row
+sound_register Nothing row = refl
+sound_register _ row = refl
+
+sound_memory : (form : Form) (row : Row) → is_sound form (row_at row.entry row.w row.l InMemory row.group) ≡ true
+unfolding steps form_row
+sound_memory Nothing row = refl
+sound_memory _ row = refl
+
 pub sound : (form : Form) (row : Row) → is_sound form row ≡ true
-unfolding steps
-sound Nothing row = refl
-sound VMOVSS_10 row = by_kind (λ kind. is_sound VMOVSS_10 (row_at row.entry row.w row.l kind row.group)) refl refl refl row.kind
-sound VMOVSD_10 row = by_kind (λ kind. is_sound VMOVSD_10 (row_at row.entry row.w row.l kind row.group)) refl refl refl row.kind
-sound VMOVSS_11 row = by_kind (λ kind. is_sound VMOVSS_11 (row_at row.entry row.w row.l kind row.group)) refl refl refl row.kind
-sound VMOVSD_11 row = by_kind (λ kind. is_sound VMOVSD_11 (row_at row.entry row.w row.l kind row.group)) refl refl refl row.kind
-sound _ row = refl
+sound form row = by_kind (λ kind. is_sound form (row_at row.entry row.w row.l kind row.group)) (sound_without form row) (sound_register form row) (sound_memory form row) row.kind
 
 -- no form names a field twice
+distinct_without : (form : Form) (row : Row) → is_distinct (slots_of form (row_at row.entry row.w row.l WithoutModRM row.group)) ≡ true
+unfolding form_row
+distinct_without Nothing row = refl
+distinct_without _ row = refl
+
+distinct_register : (form : Form) (row : Row) → is_distinct (slots_of form (row_at row.entry row.w row.l InRegister row.group)) ≡ true
+unfolding form_row
+distinct_register Nothing row = refl
+distinct_register _ row = refl
+
+distinct_memory : (form : Form) (row : Row) → is_distinct (slots_of form (row_at row.entry row.w row.l InMemory row.group)) ≡ true
+unfolding form_row
+distinct_memory Nothing row = refl
+distinct_memory _ row = refl
+
 pub distinct : (form : Form) (row : Row) → is_distinct (slots_of form row) ≡ true
-distinct Nothing row = refl
-distinct VMOVSS_10 row = by_kind (λ kind. is_distinct (slots_of VMOVSS_10 (row_at row.entry row.w row.l kind row.group))) refl refl refl row.kind
-distinct VMOVSD_10 row = by_kind (λ kind. is_distinct (slots_of VMOVSD_10 (row_at row.entry row.w row.l kind row.group))) refl refl refl row.kind
-distinct VMOVSS_11 row = by_kind (λ kind. is_distinct (slots_of VMOVSS_11 (row_at row.entry row.w row.l kind row.group))) refl refl refl row.kind
-distinct VMOVSD_11 row = by_kind (λ kind. is_distinct (slots_of VMOVSD_11 (row_at row.entry row.w row.l kind row.group))) refl refl refl row.kind
-distinct _ row = refl
+distinct form row = by_kind (λ kind. is_distinct (slots_of form (row_at row.entry row.w row.l kind row.group))) (distinct_without form row) (distinct_register form row) (distinct_memory form row) row.kind
 
 -- no form names a field that isn't free
-pub free : (form : Form) (row : Row) → is_free form row ≡ true
-unfolding steps has_groups
-free Nothing row = refl
-free VMOVSS_10 row = by_kind (λ kind. is_free VMOVSS_10 (row_at row.entry row.w row.l kind row.group)) refl refl refl row.kind
-free VMOVSD_10 row = by_kind (λ kind. is_free VMOVSD_10 (row_at row.entry row.w row.l kind row.group)) refl refl refl row.kind
-free VMOVSS_11 row = by_kind (λ kind. is_free VMOVSS_11 (row_at row.entry row.w row.l kind row.group)) refl refl refl row.kind
-free VMOVSD_11 row = by_kind (λ kind. is_free VMOVSD_11 (row_at row.entry row.w row.l kind row.group)) refl refl refl row.kind
-free _ row = refl
+free_without : (form : Form) (row : Row) → is_free form (row_at row.entry row.w row.l WithoutModRM row.group) ≡ true
+unfolding steps has_groups form_row
+free_without Nothing row = refl
+free_without _ row = refl
 
-few : (form : Form) (row : Row) → has_few form row ≡ true
-few Nothing row = refl
-few VMOVSS_10 row = by_kind (λ kind. has_few VMOVSS_10 (row_at row.entry row.w row.l kind row.group)) refl refl refl row.kind
-few VMOVSD_10 row = by_kind (λ kind. has_few VMOVSD_10 (row_at row.entry row.w row.l kind row.group)) refl refl refl row.kind
-few VMOVSS_11 row = by_kind (λ kind. has_few VMOVSS_11 (row_at row.entry row.w row.l kind row.group)) refl refl refl row.kind
-few VMOVSD_11 row = by_kind (λ kind. has_few VMOVSD_11 (row_at row.entry row.w row.l kind row.group)) refl refl refl row.kind
-few _ row = refl
+free_register : (form : Form) (row : Row) → is_free form (row_at row.entry row.w row.l InRegister row.group) ≡ true
+unfolding steps has_groups form_row
+free_register Nothing row = refl
+free_register _ row = refl
+
+free_memory : (form : Form) (row : Row) → is_free form (row_at row.entry row.w row.l InMemory row.group) ≡ true
+unfolding steps has_groups form_row
+free_memory Nothing row = refl
+free_memory _ row = refl
+
+pub free : (form : Form) (row : Row) → is_free form row ≡ true
+free form row = by_kind (λ kind. is_free form (row_at row.entry row.w row.l kind row.group)) (free_without form row) (free_register form row) (free_memory form row) row.kind
+
+-- no form has more than four slots
+few_without : (form : Form) (row : Row) → has_few form (row_at row.entry row.w row.l WithoutModRM row.group) ≡ true
+unfolding form_row
+few_without Nothing row = refl
+few_without _ row = refl
+
+few_register : (form : Form) (row : Row) → has_few form (row_at row.entry row.w row.l InRegister row.group) ≡ true
+unfolding form_row
+few_register Nothing row = refl
+few_register _ row = refl
+
+few_memory : (form : Form) (row : Row) → has_few form (row_at row.entry row.w row.l InMemory row.group) ≡ true
+unfolding form_row
+few_memory Nothing row = refl
+few_memory _ row = refl
+
+pub few : (form : Form) (row : Row) → has_few form row ≡ true
+few form row = by_kind (λ kind. has_few form (row_at row.entry row.w row.l kind row.group)) (few_without form row) (few_register form row) (few_memory form row) row.kind
 
 -- every row has at most four slots
 pub few_slots : (row : Row) → length (slots row) ≤ 4

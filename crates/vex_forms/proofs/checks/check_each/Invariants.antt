@@ -3,7 +3,7 @@ use Rattle.std.proofs.Common.{◌≡◌, ℕ, List, drop}
 use Rattle.vex_forms.specs.Fields.{fields_of}
 use Rattle.vex_forms.specs.FormWalk.{check_all}
 use Rattle.vex_forms.specs.Reads.{kind_seen}
-use Rattle.vex_forms.proofs.checks.do_checks.Given as goal
+use Rattle.vex_forms.proofs.checks.check_each.Given as goal
 
 abbrev pub invariant-loop-check : goal.invariant-loop-check
 invariant-loop-check l =
