@@ -102,8 +102,20 @@ fn parts_from_modrm<'a>(
 {
     let (modrm, rest) = first_byte(bytes)?;
     let reg = modrm / 8 % 8;
-    do_checks(form.after_modrm.items().as_slice(), entry, prefix, kind_of(modrm), reg)?;
-    do_checks(form.after_address.items().as_slice(), entry, prefix, kind_of(modrm), reg)?;
+    do_checks(
+        form.after_modrm.items().as_slice(),
+        entry,
+        prefix,
+        kind_of(modrm),
+        reg,
+    )?;
+    do_checks(
+        form.after_address.items().as_slice(),
+        entry,
+        prefix,
+        kind_of(modrm),
+        reg,
+    )?;
     let (imm, rest) = immediate(form.imm, rest)?;
     let parts = FormParts {
         reg,
@@ -137,7 +149,13 @@ pub fn form_parts<'a>(
     ensures { Gives parts_seen result (walk_form entry.now (fields_of prefix.now) bytes.now) }
 {
     let form = row_of_form(entry.form);
-    do_checks(form.before_modrm.items().as_slice(), entry, prefix, Kind::WithoutModRM, 0)?;
+    do_checks(
+        form.before_modrm.items().as_slice(),
+        entry,
+        prefix,
+        Kind::WithoutModRM,
+        0,
+    )?;
     if form.modrm {
         parts_from_modrm(form, entry, prefix, bytes)
     } else {

@@ -5,8 +5,7 @@ ghost use Rattle.vex_rows.specs.Table.{table};
 
 use crate::Check::{Group, L0, Mem, Reg, V0, VifMem};
 use crate::{
-    Check, Entry, Form, Key, Map, Pp, entries_of, entry_at, entry_count, laws, lookup,
-    row_of_form,
+    Check, Entry, Form, Key, Map, Pp, entries_of, entry_at, entry_count, laws, lookup, row_of_form,
 };
 use arrayvec::ArrayVec;
 use std::marker::Brand;
