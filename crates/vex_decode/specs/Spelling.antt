@@ -1,3 +1,4 @@
+pub use Rattle.vex_forms.specs.Written.{imm_bytes, FitsRule, FitsGroup, FitsReg, FitsImm}
 use Rattle.std.specs.Prelude.{◌≡◌, ℕ, ◌<◌, Bool, true, false, List, [], ◌∷◌, ◌++◌, Option, Some, None, if◌then◌else◌}
 use Rattle.x86_operand.specs.Meaning.{Meaning}
 use Rattle.x86_address.specs.Place.{Place, place_bytes, IsPlace, kind_of, target}
@@ -19,10 +20,6 @@ pub record Syntax : Type 0 where
   pub place : Place
   pub imm : ℕ
 
--- the immediate byte, where there is one
-abbrev pub imm_bytes : Bool → ℕ → List ℕ
-imm_bytes has imm = if has then imm ∷ [] else []
-
 -- the bytes of a spelling: prefix, opcode byte, ModRM with SIB and displacement, immediate (Intel SDM volume 2, section
 -- 2.3.1)
 abbrev pub bytes_of : Row → Syntax → List ℕ
@@ -31,27 +28,6 @@ bytes_of row s = prefix_bytes s.form s.fields ++ row.entry.byte ∷ (place_bytes
 -- what a spelling means
 abbrev pub meant : Row → Syntax → Meaning
 meant row s = gives row s.fields.r s.fields.v s.reg (target s.place s.fields.x s.fields.b) s.imm
-
--- vvvv is 0 where a step demands it (Intel SDM volume 2, section 2.3.5.6)
-abbrev pub FitsRule : VvvvRule → ℕ → Type 0
-FitsRule Named v = Unit {0}
-FitsRule Zero v = v ≡ 0
-FitsRule Free v = Unit {0}
-
--- the reg field is the group where the row has one
-abbrev pub FitsGroup : Option ℕ → ℕ → Type 0
-FitsGroup None reg = Unit {0}
-FitsGroup (Some group) reg = reg ≡ group
-
--- the reg field is 0 where there is no ModRM byte
-abbrev pub FitsReg : Bool → ℕ → Type 0
-FitsReg true reg = reg < 8
-FitsReg false reg = reg ≡ 0
-
--- the immediate byte is 0 where there is none
-abbrev pub FitsImm : Bool → ℕ → Type 0
-FitsImm true imm = imm < 256
-FitsImm false imm = imm ≡ 0
 
 -- the parts are those of a spelling by the row
 pub record IsSyntax (row : Row) (s : Syntax) : Type 0 where

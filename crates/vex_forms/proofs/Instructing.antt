@@ -1,6 +1,6 @@
 -- The row that was chosen has a layout, and the instruction that is made of it is the one that the row gives.
 use Rattle.std.specs.Prelude.{◌≡◌, refl, ℕ, Bool, true, false, not, ◌&&◌, ◌||◌, List, [], ◌∷◌, Ok, Option, Some, None, IsSome, if◌then◌else◌}
-use Rattle.std.proofs.Common.{ap, sym, ◌∙◌, inl, inr, subst}
+use Rattle.std.proofs.Common.{ap, ap₂, sym, ◌∙◌, inl, inr, subst}
 use Rattle.x86_operand.specs.Kind.{Kind, WithoutModRM, InRegister, InMemory}
 use Rattle.x86_operand.specs.Meaning.{Decoded}
 use Rattle.x86_address.specs.Bytes.{bit}
@@ -11,7 +11,7 @@ use Rattle.x86_reader.specs.Reader.{ReaderState}
 use Rattle.vex_rows.specs.declared.entry.Entry.{Entry}
 use Rattle.vex_rows.specs.declared.key.Prefix.{Prefix}
 use Rattle.vex_rows.specs.Steps.{steps}
-use Rattle.vex_rows.specs.Row.{Row, Among, exists, is_memory}
+use Rattle.vex_rows.specs.Row.{Row, Among, kinds_of, exists, is_memory}
 use Rattle.vex_rows.specs.Row.Lists.{parts-both}
 use Rattle.vex_forms.specs.declared.operand_fields.OperandFields.{OperandFields}
 use Rattle.vex_forms.specs.declared.row_layout.RowLayout.{RowLayout}
@@ -19,7 +19,7 @@ use Rattle.vex_forms.specs.Fields.{fields_of}
 use Rattle.vex_forms.specs.FormWalk.{Operands, walk_form, row_of}
 use Rattle.vex_forms.specs.FormWalk.Laws.{Passed, walk_form-passed, chosen_exists}
 use Rattle.vex_forms.specs.Gives.{gives}
-use Rattle.vex_forms.specs.Layout.{IsLayout, kind_for, group_for, may_be, row_for}
+use Rattle.vex_forms.specs.Layout.{IsLayout, group_for, may_be, row_for}
 use Rattle.vex_forms.specs.Operands.{target_seen}
 use Rattle.vex_forms.specs.Reads.{HasPrefix, IsOperands, IsInstruction, kind_of_e}
 
@@ -49,42 +49,47 @@ bit_is false = refl
 passed_of : {entry : Entry} {prefix : Prefix} {fields : OperandFields} {old new : ReaderState} (f : Follows (walk_form entry (fields_of prefix)) (IsOperands prefix) old new (Ok fields)) → Passed entry (fields_of prefix) f.answers.0
 passed_of {entry} {prefix} {fields} f = walk_form-passed entry (fields_of prefix) f.bytes (f.answers.0, []) (takes_all fields f)
 
-module _ (entry : Entry) (prefix : Prefix) (fields : OperandFields) where
-  -- the row for what the code holds is the row that was chosen
-  row_chosen : (operands : Operands) → IsOperands prefix operands fields → Among (kind_of operands.place) (if (steps entry.form).modrm then InRegister ∷ InMemory ∷ [] else WithoutModRM ∷ [])
-      → row_for entry prefix.w prefix.l (is_memory (kind_of_e fields.e)) fields.reg ≡ row_of entry (fields_of prefix) operands
-  row_chosen operands is among =
-      let kind : kind_for entry.form (is_memory (kind_of_e fields.e)) ≡ kind_of operands.place = ap (λ k. kind_for entry.form (is_memory k)) is.e.kind ∙ kind-again (steps entry.form).modrm (kind_of operands.place) among in
-      λ i. record { entry = entry; w = prefix.w; l = bit_is prefix.l i; kind = kind i; group = group_for entry.form (is.reg i) }
+-- the row at the kind of the operand E and the reg field is the row that was chosen
+pub row_again : (entry : Entry) (prefix : Prefix) (operands : Operands) → Among (kind_of operands.place) (kinds_of entry.form)
+    → row_for entry prefix.w prefix.l (is_memory (kind_of operands.place)) operands.reg ≡ row_of entry (fields_of prefix) operands
+row_again entry prefix operands among =
+    let kind = kind-again (steps entry.form).modrm (kind_of operands.place) among in
+    λ i. record { entry = entry; w = prefix.w; l = bit_is prefix.l i; kind = kind i; group = group_for entry.form operands.reg }
 
-  module _ {old new : ReaderState} {memory : Bool} (f : Follows (walk_form entry (fields_of prefix)) (IsOperands prefix) old new (Ok fields)) (is_memory : memory ≡ is_memory (kind_of_e fields.e)) where
-    row_is : row_for entry prefix.w prefix.l memory fields.reg ≡ row_of entry (fields_of prefix) f.answers.0
-    row_is = ap (λ m. row_for entry prefix.w prefix.l m fields.reg) is_memory ∙ row_chosen f.answers.0 f.answers.1 (passed_of f).kind
+-- and it can be
+pub may_again : (entry : Entry) (operands : Operands) → Among (kind_of operands.place) (kinds_of entry.form) → may_be entry (is_memory (kind_of operands.place)) ≡ true
+may_again entry operands among = may_be-again (steps entry.form).modrm (kind_of operands.place) among
 
-    may : may_be entry memory ≡ true
-    may = ap (may_be entry) is_memory ∙ ap (λ k. (steps entry.form).modrm || not (Rattle.vex_rows.specs.Row.is_memory k)) f.answers.1.e.kind ∙ may_be-again (steps entry.form).modrm _ (passed_of f).kind
+module _ (entry : Entry) (prefix : Prefix) (fields : OperandFields) {old new : ReaderState} {memory : Bool}
+    (f : Follows (walk_form entry (fields_of prefix)) (IsOperands prefix) old new (Ok fields)) (memory_is : memory ≡ is_memory (kind_of_e fields.e)) where
+  in_memory : memory ≡ is_memory (kind_of f.answers.0.place)
+  in_memory = memory_is ∙ ap is_memory f.answers.1.e.kind
 
-    there : HasPrefix entry (fields_of prefix) → (may_be entry memory && exists (row_for entry prefix.w prefix.l memory fields.reg)) ≡ true
-    there has = parts-both _ _ may (ap exists row_is ∙ chosen_exists entry (fields_of prefix) f.answers.0 (passed_of f) has.w has.l)
+  row_is : row_for entry prefix.w prefix.l memory fields.reg ≡ row_of entry (fields_of prefix) f.answers.0
+  row_is = ap₂ (λ m reg. row_for entry prefix.w prefix.l m reg) in_memory f.answers.1.reg ∙ row_again entry prefix f.answers.0 (passed_of f).kind
 
-    meaning_is : (layout : RowLayout) (instruction : Decoded) → IsLayout (row_for entry prefix.w prefix.l memory fields.reg) layout
-        → ((row : Row) → IsLayout row layout → instruction.meaning ≡ gives row (bit fields.r) fields.vvvv fields.reg (target_seen fields.e) fields.imm)
-        → instruction.len ≡ 0 → IsInstruction entry (fields_of prefix) f.answers.0 instruction
-    meaning_is layout instruction is_layout meaning length =
-        let is = f.answers.1 in
-        record {
-          meaning = meaning _ is_layout ∙ (λ i. gives (row_is i) (bit (is.r i)) (is.vvvv i) (is.reg i) (is.e.target i) (is.imm i));
-          length = length;
-        }
+  there : HasPrefix entry (fields_of prefix) → (may_be entry memory && exists (row_for entry prefix.w prefix.l memory fields.reg)) ≡ true
+  there has =
+      parts-both _ _ (ap (may_be entry) in_memory ∙ may_again entry f.answers.0 (passed_of f).kind) (ap exists row_is ∙ chosen_exists entry (fields_of prefix) f.answers.0 (passed_of f) has.w has.l)
+
+  meaning_is : (layout : RowLayout) (instruction : Decoded) → IsLayout (row_for entry prefix.w prefix.l memory fields.reg) layout
+      → ((row : Row) → IsLayout row layout → instruction.meaning ≡ gives row (bit fields.r) fields.vvvv fields.reg (target_seen fields.e) fields.imm)
+      → instruction.len ≡ 0 → IsInstruction entry (fields_of prefix) f.answers.0 instruction
+  meaning_is layout instruction is_layout meaning length =
+      let is = f.answers.1 in
+      record {
+        meaning = meaning _ is_layout ∙ (λ i. gives (row_is i) (bit (is.r i)) (is.vvvv i) (is.reg i) (is.e.target i) (is.imm i));
+        length = length;
+      }
 
 pub layout_is_there : (entry : Entry) (prefix : Prefix) (fields : OperandFields) {old new : ReaderState} {memory : Bool} → HasPrefix entry (fields_of prefix)
     → Follows (walk_form entry (fields_of prefix)) (IsOperands prefix) old new (Ok fields) → memory ≡ is_memory (kind_of_e fields.e)
     → (may_be entry memory && exists (row_for entry prefix.w prefix.l memory fields.reg)) ≡ true
-layout_is_there entry prefix fields has f is_memory = there entry prefix fields f is_memory has
+layout_is_there entry prefix fields has f memory_is = there entry prefix fields f memory_is has
 
 pub is_instruction : (entry : Entry) (prefix : Prefix) (fields : OperandFields) {old new : ReaderState} {memory : Bool} {layout : RowLayout} {instruction : Decoded}
     → (f : Follows (walk_form entry (fields_of prefix)) (IsOperands prefix) old new (Ok fields)) → memory ≡ is_memory (kind_of_e fields.e)
     → IsLayout (row_for entry prefix.w prefix.l memory fields.reg) layout
     → ((row : Row) → IsLayout row layout → instruction.meaning ≡ gives row (bit fields.r) fields.vvvv fields.reg (target_seen fields.e) fields.imm)
     → instruction.len ≡ 0 → IsInstruction entry (fields_of prefix) f.answers.0 instruction
-is_instruction entry prefix fields f is_memory is_layout meaning length = meaning_is entry prefix fields f is_memory _ _ is_layout meaning length
+is_instruction entry prefix fields f memory_is is_layout meaning length = meaning_is entry prefix fields f memory_is _ _ is_layout meaning length

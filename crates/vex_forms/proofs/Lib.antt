@@ -6,3 +6,4 @@ mod Mapped
 mod MeaningGiven
 pub mod Operating
 pub mod Instructing
+pub mod Telling

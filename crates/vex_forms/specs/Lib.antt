@@ -6,4 +6,5 @@ pub mod Laws
 pub mod Fields
 pub mod FormWalk
 pub mod Operands
+pub mod Written
 pub mod Reads

@@ -1,5 +1,8 @@
 -- What it is for the code to hold what the steps of a form read.
-use Rattle.std.specs.Prelude.{◌≡◌, ◌==◌, Bool, true}
+use Rattle.std.specs.Prelude.{◌≡◌, ◌≤◌, ◌==◌, ℕ, Bool, true, List, length, Some, None}
+use Rattle.x86_operand.specs.declared.error.DecodeError.{DecodeError}
+use Rattle.x86_reader.specs.Reader.{ReaderState, Takes, Passes}
+use Rattle.x86_address.specs.Follows.{Refused}
 use Rattle.x86_operand.specs.Kind.{Kind, WithoutModRM, InRegister, InMemory}
 use Rattle.x86_operand.specs.Meaning.{Decoded}
 use Rattle.x86_address.specs.Place.{Place, kind_of, target}
@@ -12,7 +15,8 @@ use Rattle.vex_forms.specs.declared.operand_e.OperandE.{OperandE}
 use Rattle.vex_forms.specs.declared.operand_e.OperandE.TheVariants.{Absent, Register, Memory}
 use Rattle.vex_forms.specs.declared.operand_fields.OperandFields.{OperandFields}
 use Rattle.vex_forms.specs.Fields.{Fields}
-use Rattle.vex_forms.specs.FormWalk.{Operands, row_of}
+use Rattle.vex_forms.specs.FormWalk.{Operands, row_of, form_fails}
+use Rattle.vex_forms.specs.Written.{WritesForm}
 use Rattle.vex_forms.specs.Gives.{gives}
 use Rattle.vex_forms.specs.Operands.{target_seen, NumberFits, BanksFit}
 
@@ -54,3 +58,22 @@ pub record IsOperands (prefix : Prefix) (operands : Operands) (fields : OperandF
 pub record IsInstruction (entry : Entry) (f : Fields) (operands : Operands) (instruction : Decoded) : Type 0 where
   pub meaning : instruction.meaning ≡ gives (row_of entry f operands) f.r f.v operands.reg (target operands.place f.x f.b) operands.imm
   pub length : instruction.len ≡ 0
+
+-- the reader gave at most seven bytes, over which no step of the form fails: those of the operands in a spelling by the
+-- row that was chosen, of which the instruction means what that row gives
+pub record TakesForm (entry : Entry) (f : Fields) (old new : ReaderState) (instruction : Decoded) : Type 0 where
+  pub bytes : List ℕ
+  pub takes : Takes old new bytes
+  pub most : length bytes ≤ 7
+  pub none_fails : form_fails entry f bytes ≡ None
+  pub operands : Operands
+  pub writes : WritesForm entry f operands bytes
+  pub is : IsInstruction entry f operands instruction
+
+-- the reader gave at most seven bytes, at whose end a step of the form fails with this error
+pub record FailsForm (entry : Entry) (f : Fields) (old new : ReaderState) (error : DecodeError) : Type 0 where
+  pub bytes : List ℕ
+  pub passes : Passes old new bytes
+  pub refused : Refused old new error
+  pub most : length bytes ≤ 7
+  pub fails : form_fails entry f bytes ≡ Some (error, length bytes)

@@ -1,13 +1,13 @@
 //! Reading what the form of an entry asks for.
 
-ghost use Rattle.std.specs.Prelude.{◌≡◌, ◌<◌, ◌/◌, ◌%◌};
-ghost use Rattle.x86_address.specs.Follows.{Same, Follows};
+ghost use Rattle.std.specs.Prelude.{◌≡◌, ◌≢◌, ◌<◌, ◌/◌, ◌%◌, IfOk, IfErr};
+ghost use Rattle.x86_address.specs.Follows.{Same, Follows, OverSlice};
 ghost use Rattle.vex_rows.specs.Steps.{steps_seen};
 ghost use Rattle.vex_rows.specs.Row.{Among, is_memory};
 ghost use Rattle.vex_rows.specs.Table.{table};
 ghost use Rattle.vex_forms.specs.Fields.{fields_of};
 ghost use Rattle.vex_forms.specs.FormWalk.{place_by, take_imm, walk_alone, walk_form, walk_modrm};
-ghost use Rattle.vex_forms.specs.Reads.{HasPrefix, IsInstruction, IsOperandE, IsOperands, kind_of_e};
+ghost use Rattle.vex_forms.specs.Reads.{FailsForm, HasPrefix, IsInstruction, IsOperandE, IsOperands, TakesForm, kind_of_e};
 
 use crate::checks::{Kind, do_checks};
 use crate::instruction::instruction_of;
@@ -15,6 +15,7 @@ use crate::operand_e::OperandE;
 use crate::operand_fields::OperandFields;
 use crate::row_layout::layout;
 use vex_rows::{Entry, FormRow, Prefix, row_of_form};
+use x86_address::laws::reading_is_spelling;
 use x86_address::{read_address, read_imm, read_modrm};
 use x86_operand::{DecodeError, Instruction};
 use x86_reader::Reader;
@@ -117,12 +118,27 @@ fn is_memory(e: OperandE) -> bool
     matches!(e, OperandE::Memory(_))
 }
 
+/// Does the steps of an entry's form, and makes the instruction that they mean.
+fn read_instruction<R: Reader>(entry: &Entry, prefix: &Prefix, words: &mut R) -> Result<Instruction, DecodeError>
+    requires prefix { HasPrefix entry.now (fields_of prefix.now) }
+    requires vvvv { prefix.now.vvvv < 16 }
+    ensures { Follows (walk_form entry.now (fields_of prefix.now)) (IsInstruction entry.now (fields_of prefix.now))
+        (R.state words.old) (R.state words.new) result }
+{
+    let fields = read_operands(entry, prefix, words)?;
+    match layout(entry, prefix.w, prefix.l, is_memory(fields.e), fields.reg) {
+        Some(layout) => Ok(instruction_of(&layout, &fields)),
+        None => unreachable!(),
+    }
+}
+
 /// Does the steps of an entry's form over the bytes after the opcode byte, and answers the instruction that they mean
 /// with the fields of the prefix (Intel SDM volume 2, sections 2.1.3 to 2.1.5, 2.3.5 and 2.3.8). Its length is 0.
 ///
 /// The first step that fails gives the error: `InvalidOpcode` where the field reg is none of the form's groups,
 /// `InvalidOperand` where another check doesn't pass, and `ExhaustedInput` where the reader refuses a byte, which comes
-/// only where its count of refusals rose in this call or stands at its last value. No other error comes.
+/// only where its count of refusals rose in this call or stands at its last value. No other error comes. Both numbers of
+/// the reader rise by the number of bytes taken, which is at most 7.
 pub fn read_form<R: Reader>(
     entry: &Entry,
     prefix: &Prefix,
@@ -133,10 +149,17 @@ pub fn read_form<R: Reader>(
     requires vvvv { prefix.now.vvvv < 16 }
     ensures follows { Follows (walk_form entry.now (fields_of prefix.now)) (IsInstruction entry.now (fields_of prefix.now))
         (R.state words.old) (R.state words.new) result }
+
+    // No step fails over the bytes taken, and they are those of a spelling by the row that was chosen.
+    ensures spells { IfOk result (TakesForm entry.now (fields_of prefix.now) (R.state words.old) (R.state words.new)) }
+
+    // A step fails at the end of the bytes taken, with this error.
+    ensures fails { IfErr result (FailsForm entry.now (fields_of prefix.now) (R.state words.old) (R.state words.new)) }
+    ensures inside { IfErr result (λ error. error ≢ DecodeError.Outside) }
+    ensures slice { OverSlice (walk_form entry.now (fields_of prefix.now)) (IsInstruction entry.now (fields_of prefix.now))
+        (R.state words.old) (R.state words.new) result }
 {
-    let fields = read_operands(entry, prefix, words)?;
-    match layout(entry, prefix.w, prefix.l, is_memory(fields.e), fields.reg) {
-        Some(layout) => Ok(instruction_of(&layout, &fields)),
-        None => unreachable!(),
-    }
+    // By this law the bytes that were read are those that spell what was read.
+    reading_is_spelling();
+    read_instruction(entry, prefix, words)
 }

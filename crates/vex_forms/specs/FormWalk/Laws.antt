@@ -2,11 +2,15 @@
 -- chooses is a row.
 use Rattle.std.specs.Prelude.{◌≡◌, refl, ◌⊎◌, ℕ, ◌/◌, ◌%◌, Bool, true, false, not, ◌&&◌, ◌||◌, ◌==◌, List, [], ◌∷◌, ◌++◌, Option, Some, None, Ok, Err, if◌then◌else◌}
 use Rattle.std.specs.List.{list_all, list_any}
-use Rattle.std.proofs.Common.{ap, sym, ◌∙◌, inl, inr, subst}
+use Rattle.std.proofs.Common.{ap, ap₂, sym, ◌∙◌, inl, inr, subst, arith}
 use Rattle.std.proofs.lemmas.Bool.{eqb-true}
 use Rattle.x86_opcode.specs.declared.Opcode.{Opcode}
 use Rattle.x86_operand.specs.Kind.{Kind, WithoutModRM, InRegister, InMemory}
-use Rattle.x86_address.specs.Place.{Place, NoPlace, Direct, Based, RipBased, Scaled, Baseless, kind_of}
+use Rattle.x86_address.specs.Bytes.{IsBytes}
+use Rattle.x86_address.specs.Most.{TakesAtMost}
+use Rattle.x86_address.specs.Most.Laws.{most_none, most_refused, most_then, most_if, most_wider, most_byte, most_place}
+use Rattle.x86_address.specs.Place.{Place, NoPlace, Direct, Based, RipBased, Scaled, Baseless, IsPlace, kind_of, place_bytes}
+use Rattle.x86_address.specs.Laws.{ReadingIsSpelling}
 use Rattle.x86_address.specs.Reading.{Reading, ◌>>=◌, take_byte, take_doubleword, take_displacement, take_baseless, take_scaled, take_sib, take_place}
 use Rattle.vex_rows.specs.declared.entry.Entry.{Entry}
 use Rattle.vex_rows.specs.declared.form.Form.{Form}
@@ -22,6 +26,7 @@ use Rattle.vex_rows.specs.Row.Laws.{checks_of}
 use Rattle.vex_rows.specs.Steps.Laws.{orderly}
 use Rattle.vex_forms.specs.Fields.{Fields}
 use Rattle.vex_forms.specs.FormWalk.{passes, refusal, check_all, kind_of_mod, take_imm, Operands, place_by, walk_modrm, walk_alone, walk_form, row_of}
+use Rattle.vex_forms.specs.Written.{imm_bytes, FitsReg, FitsImm}
 
 -- ---- what a walk has passed
 
@@ -132,14 +137,14 @@ walk_alone-place form bytes answer e =
 -- ---- the order of the steps
 
 -- the parts of the test of the order
-record Ordered (form : FormSteps) : Type 0 where
-  before_modrm : list_all is_prefix_check form.before_modrm ≡ true
-  after_modrm : list_all is_modrm_check form.after_modrm ≡ true
-  after_address : list_all is_late_check form.after_address ≡ true
-  rest : (if form.modrm then form.address || list_any is_register_check form.after_modrm
+pub record Ordered (form : FormSteps) : Type 0 where
+  pub before_modrm : list_all is_prefix_check form.before_modrm ≡ true
+  pub after_modrm : list_all is_modrm_check form.after_modrm ≡ true
+  pub after_address : list_all is_late_check form.after_address ≡ true
+  pub rest : (if form.modrm then form.address || list_any is_register_check form.after_modrm
       else is_none form.after_modrm && is_none form.after_address && not form.address) ≡ true
 
-ordered : (entry : Entry) → Ordered (steps entry.form)
+pub ordered : (entry : Entry) → Ordered (steps entry.form)
 ordered entry =
     let form = steps entry.form in
     let all = both-parts (list_all is_prefix_check form.before_modrm && list_all is_modrm_check form.after_modrm && list_all is_late_check form.after_address) _ (orderly entry.form) in
@@ -226,3 +231,126 @@ module _ (entry : Entry) (f : Fields) (operands : Operands) (passed : Passed ent
   pub chosen_exists : allows entry.w f.w ≡ true → allows entry.l (f.l == 1) ≡ true → exists (row_of entry f operands) ≡ true
   unfolding exists
   chosen_exists w l = parts-both _ _ (parts-both _ _ w l) checks_permit
+
+-- ---- how many bytes a walk takes
+
+most_checks : (entry : Entry) (f : Fields) (kind : Kind) (reg : ℕ) (checks : List Check) → TakesAtMost 0 (check_all entry f kind reg checks)
+most_checks entry f kind reg [] = most_none _
+most_checks entry f kind reg (c ∷ checks) = most_if 0 (passes entry f kind reg c) _ _ (most_checks entry f kind reg checks) (most_refused _)
+
+most_imm : (has : Bool) → TakesAtMost 1 (take_imm has)
+most_imm has = most_if 1 has _ _ most_byte (most_wider 0 1 _ (omega arith) (most_none _))
+
+most_place_by : (address : Bool) (mode rm : ℕ) → TakesAtMost 5 (place_by address mode rm)
+most_place_by address mode rm = most_if 5 address _ _ (most_place mode rm) (most_wider 0 5 _ (omega arith) (most_none _))
+
+most_modrm : (entry : Entry) (f : Fields) (form : FormSteps) → TakesAtMost 7 (walk_modrm entry f form)
+most_modrm entry f form =
+    most_then 1 6 take_byte _ most_byte (λ modrm.
+    most_then 0 6 (check_all entry f (kind_of_mod (modrm / 64)) ((modrm / 8) % 8) form.after_modrm) _ (most_checks entry f _ _ form.after_modrm) (λ second.
+    most_then 5 1 (place_by form.address (modrm / 64) (modrm % 8)) _ (most_place_by form.address (modrm / 64) (modrm % 8)) (λ place.
+    most_then 0 1 (check_all entry f (kind_of_mod (modrm / 64)) ((modrm / 8) % 8) form.after_address) _ (most_checks entry f _ _ form.after_address) (λ third.
+    most_then 1 0 (take_imm form.imm) _ (most_imm form.imm) (λ imm. most_none _)))))
+
+most_alone : (form : FormSteps) → TakesAtMost 7 (walk_alone form)
+most_alone form = most_wider 1 7 _ (omega arith) (most_then 1 0 (take_imm form.imm) _ (most_imm form.imm) (λ imm. most_none _))
+
+-- at most seven
+pub most_form : (entry : Entry) (f : Fields) → TakesAtMost 7 (walk_form entry f)
+unfolding walk_form
+most_form entry f =
+    most_then 0 7 (check_all entry f WithoutModRM 0 (steps entry.form).before_modrm) _ (most_checks entry f WithoutModRM 0 (steps entry.form).before_modrm) (λ first.
+    most_if 7 (steps entry.form).modrm _ _ (most_modrm entry f (steps entry.form)) (most_alone (steps entry.form)))
+
+-- ---- how the bytes that a walk takes are written
+
+bytes_after : (xs ys : List ℕ) → IsBytes (xs ++ ys) → IsBytes ys
+bytes_after [] ys is = is
+bytes_after (x ∷ xs) ys is = bytes_after xs ys is.1
+
+-- the bytes of a form's operands, and what is left
+pub record Writes (form : FormSteps) (operands : Operands) (bytes rest : List ℕ) : Type 0 where
+  pub reg : FitsReg form.modrm operands.reg
+  pub place : IsPlace operands.place
+  pub imm : FitsImm form.imm operands.imm
+  pub written : bytes ≡ place_bytes operands.reg operands.place ++ (imm_bytes form.imm operands.imm ++ rest)
+
+record WritesImm (has : Bool) (imm : ℕ) (bytes rest : List ℕ) : Type 0 where
+  fits : FitsImm has imm
+  written : bytes ≡ imm_bytes has imm ++ rest
+
+imm_written : (has : Bool) (bytes : List ℕ) (answer : ℕ × List ℕ) → IsBytes bytes → take_imm has bytes ≡ Ok answer → WritesImm has answer.0 bytes answer.1
+imm_written true [] answer is e = cc
+imm_written true (byte ∷ bytes) answer is e = subst (λ read. WritesImm true read.0 (byte ∷ bytes) read.1) (same_answer e) (record { fits = is.0; written = refl })
+imm_written false bytes answer is e = subst (λ read. WritesImm false read.0 bytes read.1) (same_answer e) (record { fits = refl; written = refl })
+
+byte_stood : (bytes : List ℕ) (answer : ℕ × List ℕ) → take_byte bytes ≡ Ok answer → bytes ≡ answer.0 ∷ answer.1
+byte_stood [] answer e = cc
+byte_stood (byte ∷ bytes) answer e = ap₂ ◌∷◌ (ap (λ read. read.0) (same_answer e)) (ap (λ read. read.1) (same_answer e))
+
+checks_take_none : (entry : Entry) (f : Fields) (kind : Kind) (reg : ℕ) (checks : List Check) (bytes : List ℕ) (answer : Unit {0} × List ℕ) → check_all entry f kind reg checks bytes ≡ Ok answer → bytes ≡ answer.1
+checks_take_none entry f kind reg [] bytes answer e = ap (λ read. read.1) (same_answer e)
+checks_take_none entry f kind reg (c ∷ checks) bytes answer e = by (passes entry f kind reg c) e (checks_take_none entry f kind reg checks bytes answer) where
+  by : (b : Bool) → (if b then check_all entry f kind reg checks bytes else Err (refusal c, bytes)) ≡ Ok answer → (check_all entry f kind reg checks bytes ≡ Ok answer → bytes ≡ answer.1) → bytes ≡ answer.1
+  by true e next = next e
+  by false e next = cc
+
+-- what place_by reads, take_place does, where the form that reads no address has checked that mod is 3
+by_take_place : (address : Bool) (mode rm : ℕ) (bytes : List ℕ) (answer : Place × List ℕ) → (address ≡ false → mode ≡ 3) → place_by address mode rm bytes ≡ Ok answer → take_place mode rm bytes ≡ Ok answer
+by_take_place true mode rm bytes answer direct e = e
+by_take_place false mode rm bytes answer direct e = rw (direct refl) e
+
+walk_modrm-written : ReadingIsSpelling → (entry : Entry) (f : Fields) (form : FormSteps) (bytes : List ℕ) (answer : Operands × List ℕ) → IsBytes bytes → form.modrm ≡ true → (form.address || list_any is_register_check form.after_modrm) ≡ true → walk_modrm entry f form bytes ≡ Ok answer → Writes form answer.0 bytes answer.1
+walk_modrm-written place_read entry f form bytes answer is has direct e =
+    let modrm = then_ok (take_byte bytes) _ answer e in
+    let mode : ℕ = modrm.0.0 / 64 in
+    let rm : ℕ = modrm.0.0 % 8 in
+    let reg : ℕ = (modrm.0.0 / 8) % 8 in
+    let second = then_ok (check_all entry f (kind_of_mod mode) reg form.after_modrm modrm.0.1) _ answer modrm.2 in
+    let place = then_ok (place_by form.address mode rm second.0.1) _ answer second.2 in
+    let third = then_ok (check_all entry f (kind_of_mod mode) reg form.after_address place.0.1) _ answer place.2 in
+    let imm = then_ok (take_imm form.imm third.0.1) _ answer third.2 in
+    let after_modrm = check_all-passed entry f (kind_of_mod mode) reg form.after_modrm modrm.0.1 second.0 second.1 in
+    let registers : form.address ≡ false → mode ≡ 3 = λ none. register_passed entry f mode reg form.after_modrm (subst (λ a. (a || list_any is_register_check form.after_modrm) ≡ true) none direct) after_modrm in
+    let first = byte_stood bytes modrm.0 modrm.1 in
+    let are : IsBytes (modrm.0.0 ∷ modrm.0.1) = subst IsBytes first is in
+    let none_second = checks_take_none entry f (kind_of_mod mode) reg form.after_modrm modrm.0.1 second.0 second.1 in
+    let none_third = checks_take_none entry f (kind_of_mod mode) reg form.after_address place.0.1 third.0 third.1 in
+    let read : take_place mode rm modrm.0.1 ≡ Ok place.0 = ap (take_place mode rm) none_second ∙ by_take_place form.address mode rm second.0.1 place.0 registers place.1 in
+    let stood = (place_read modrm.0.0 modrm.0.1 place.0.0 place.0.1 are.0 are.1).0 read in
+    let left : IsBytes third.0.1 = subst IsBytes none_third (bytes_after (place_bytes reg place.0.0) place.0.1 (subst IsBytes stood.2 are)) in
+    let last = imm_written form.imm third.0.1 imm.0 left imm.1 in
+    let found : Writes form (record { reg = reg; place = place.0.0; imm = imm.0.0 }) bytes imm.0.1 = record {
+      reg = subst (λ m. FitsReg m reg) (sym has) (omega arith);
+      place = stood.0;
+      imm = last.fits;
+      written = first ∙ stood.2 ∙ ap (λ rest. place_bytes reg place.0.0 ++ rest) (none_third ∙ last.written);
+    } in
+    subst (λ read. Writes form read.0 bytes read.1) (same_answer imm.2) found
+
+walk_alone-written : (form : FormSteps) (bytes : List ℕ) (answer : Operands × List ℕ) → IsBytes bytes → form.modrm ≡ false → walk_alone form bytes ≡ Ok answer → Writes form answer.0 bytes answer.1
+walk_alone-written form bytes answer is has e =
+    let imm = then_ok (take_imm form.imm bytes) _ answer e in
+    let last = imm_written form.imm bytes imm.0 is imm.1 in
+    let found : Writes form (record { reg = 0; place = NoPlace; imm = imm.0.0 }) bytes imm.0.1 = record {
+      reg = subst (λ m. FitsReg m 0) (sym has) refl;
+      place = tt;
+      imm = last.fits;
+      written = last.written;
+    } in
+    subst (λ read. Writes form read.0 bytes read.1) (same_answer imm.2) found
+
+-- where a walk answers, its operands were so written
+pub walk_form-written : ReadingIsSpelling → (entry : Entry) (f : Fields) (bytes : List ℕ) (answer : Operands × List ℕ) → IsBytes bytes → walk_form entry f bytes ≡ Ok answer → Writes (steps entry.form) answer.0 bytes answer.1
+unfolding walk_form
+walk_form-written place_read entry f bytes answer is e =
+    let form = steps entry.form in
+    let first = then_ok (check_all entry f WithoutModRM 0 form.before_modrm bytes) _ answer e in
+    let none = checks_take_none entry f WithoutModRM 0 form.before_modrm bytes first.0 first.1 in
+    subst (λ bytes. Writes (steps entry.form) answer.0 bytes answer.1) (sym none) (by form.modrm refl first.0.1 (subst IsBytes none is) first.2)
+  where
+    by : (b : Bool) → (steps entry.form).modrm ≡ b → (left : List ℕ) → IsBytes left → (if b then walk_modrm entry f (steps entry.form) left else walk_alone (steps entry.form) left) ≡ Ok answer → Writes (steps entry.form) answer.0 left answer.1
+    by true h left is e =
+        let rest = subst (λ m. (if m then (steps entry.form).address || list_any is_register_check (steps entry.form).after_modrm else is_none (steps entry.form).after_modrm && is_none (steps entry.form).after_address && not (steps entry.form).address) ≡ true) h (ordered entry).rest in
+        walk_modrm-written place_read entry f (steps entry.form) left answer is h rest e
+    by false h left is e = walk_alone-written (steps entry.form) left answer is h e

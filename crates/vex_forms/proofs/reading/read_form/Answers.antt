@@ -1,15 +1,16 @@
-use Rattle.std.proofs.Common.{IsSome}
+use Rattle.x86_address.specs.Follows.Laws.{over_slice}
 use Rattle.vex_forms.specs.Fields.{fields_of}
-use Rattle.x86_address.specs.Follows.Laws.{follows_answered}
-use Rattle.vex_forms.proofs.Instructing.{none_there, layout_is_there, is_instruction}
+use Rattle.vex_forms.proofs.Telling.{if_takes_form, if_fails_form, if_inside}
 use Rattle.vex_forms.proofs.reading.read_form.Goals as goal
 
-pub unreachable-requires : goal.unreachable-requires
-unreachable-requires g c =
-    let there : IsSome c.layout.result = c.layout.ensures.exists.1 (layout_is_there c.args.entry.now c.args.prefix.now c.in_ok-fields.fields c.requires.prefix c.in_ok-fields.ensures c.is_memory.ensures) in
-    none_there c.layout.result there c.in-None.is
+pub returns-clause-spells : goal.returns-clause-spells
+returns-clause-spells g c = if_takes_form c.reading_is_spelling.ensures.spelled c.args.entry.now c.args.prefix.now c.requires.listed c.requires.prefix c.read_instruction.result c.read_instruction.ensures
 
-pub returns : goal.returns
-returns g c = record {
-  follows = follows_answered c.in_ok-fields.ensures (is_instruction c.args.entry.now c.args.prefix.now c.in_ok-fields.fields c.in_ok-fields.ensures c.is_memory.ensures c.in-Some.ensures.row c.instruction_of.ensures.meaning c.instruction_of.ensures.length);
-}
+pub returns-clause-fails : goal.returns-clause-fails
+returns-clause-fails g c = if_fails_form c.args.entry.now (fields_of c.args.prefix.now) c.read_instruction.result c.read_instruction.ensures
+
+pub returns-clause-inside : goal.returns-clause-inside
+returns-clause-inside g c = if_inside c.reading_is_spelling.ensures.exhausted c.args.entry.now (fields_of c.args.prefix.now) c.read_instruction.result c.read_instruction.ensures
+
+pub returns-clause-slice : goal.returns-clause-slice
+returns-clause-slice g c = over_slice c.read_instruction.result c.read_instruction.ensures
