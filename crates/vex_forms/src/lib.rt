@@ -22,4 +22,6 @@ pub use row_layout::{RowLayout, layout};
 pub use slot::{Slot, VvvvRule};
 
 #[cfg(test)]
+mod reading_tests;
+#[cfg(test)]
 mod tests;

@@ -119,7 +119,11 @@ fn is_memory(e: OperandE) -> bool
 }
 
 /// Does the steps of an entry's form, and makes the instruction that they mean.
-fn read_instruction<R: Reader>(entry: &Entry, prefix: &Prefix, words: &mut R) -> Result<Instruction, DecodeError>
+pub(crate) fn read_instruction<R: Reader>(
+    entry: &Entry,
+    prefix: &Prefix,
+    words: &mut R,
+) -> Result<Instruction, DecodeError>
     requires prefix { HasPrefix entry.now (fields_of prefix.now) }
     requires vvvv { prefix.now.vvvv < 16 }
     ensures { Follows (walk_form entry.now (fields_of prefix.now)) (IsInstruction entry.now (fields_of prefix.now))

@@ -337,17 +337,46 @@ fn a_byte_that_a_reader_refuses_is_an_error_in_mid_stream(rt: HostRuntime) {
     assert_eq!(rt; (words.offset(), words.total_offset()), (3, 4));
 }
 
-#[test]
-fn nothing_is_read_after_a_refusal(rt: HostRuntime) {
-    // SIB and a displacement of four bytes, after ModRM 84; one call fails.
-    let bytes = [0x24, 0x78, 0x56, 0x34, 0x12];
-    for refused in [0u64, 1, 2, 3, 4] {
+/// At each byte of the address that the reader refuses, the call fails, and reads no byte after it.
+fn stops_at_each_byte(rt: &impl Abort, modrm: u8, sib: Sib)
+    requires { modrm < 0xC0 }
+{
+    // More bytes follow than an address has, for a call that would read on.
+    let bytes = if modrm % 8 == 4 {
+        [sib.byte, 0x78, 0x56, 0x34, 0x12, 0x24, 0x25, 0x26]
+    } else {
+        [0x78, 0x56, 0x34, 0x12, 0x24, 0x25, 0x26, 0x27]
+    };
+    let disp = four_bytes([0x78, 0x56, 0x34, 0x12], 120, 305_419_896);
+    let (_, length) = expected(modrm / 64, modrm % 8, sib, disp, false, false);
+    for refused in 0..length as u64 {
         let failing = [refused];
         let mut words = FailReader::new(&bytes, &failing);
         assert_eq!(rt;
-            read_address(&mut words, 0x84, false, false),
-            Err(DecodeError::ExhaustedInput)
+            read_address(&mut words, modrm, false, false),
+            Err(DecodeError::ExhaustedInput),
+            "ModRM {modrm}, then {bytes:?} without the byte {refused}"
         );
-        assert_eq!(rt; words.total_offset(), refused);
+        assert_eq!(rt;
+            words.total_offset(),
+            refused,
+            "ModRM {modrm}, then {bytes:?} without the byte {refused}"
+        );
+    }
+}
+
+#[test]
+fn nothing_is_read_after_a_refusal(rt: HostRuntime) {
+    let sibs = [
+        sib_byte(0x00, 1, 0, 0),
+        sib_byte(0x24, 1, 4, 4),
+        sib_byte(0x4d, 2, 1, 5),
+        sib_byte(0xe5, 8, 4, 5),
+        sib_byte(0xff, 8, 7, 7),
+    ];
+    for sib in sibs {
+        for modrm in 0..0xC0 {
+            stops_at_each_byte(&rt, modrm, sib);
+        }
     }
 }
