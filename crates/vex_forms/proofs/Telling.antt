@@ -34,7 +34,7 @@ use Rattle.vex_forms.specs.Written.{imm_bytes, FitsRule, FitsImm, WritesForm}
 use Rattle.vex_forms.specs.Reads.{HasPrefix, IsInstruction, TakesForm, FailsForm}
 use Rattle.vex_forms.proofs.Choosing.{choice-is_row}
 use Rattle.vex_forms.proofs.Instructing.{row_again, may_again}
-use Rattle.vex_forms.proofs.Sound.{demanded, v_rule-zero}
+use Rattle.vex_forms.specs.Slots.Laws.{demanded, v_rule-zero}
 
 -- ---- after an error
 

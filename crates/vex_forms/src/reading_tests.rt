@@ -1,9 +1,17 @@
 //! What no clause says of reading a form: instructions as the manual has them, and that nothing is read after a refusal.
 
+ghost use Rattle.std.specs.Prelude.{◌≡◌, ◌<◌, IfSome, true};
+ghost use Rattle.vex_rows.specs.Row.{Among};
+ghost use Rattle.vex_rows.specs.Rules.{has_key};
+ghost use Rattle.vex_rows.specs.Table.{table};
+
 use crate::read_form;
 use crate::reading::read_instruction;
+use std::marker::Brand;
 use std::process::Abort;
+use std::sync::ledger::{Blank, Ledger};
 use std::test::Fail;
+use step_counter::Steps;
 use vex_rows::{Entry, Form, Key, Map, Pp, Prefix, Rule, lookup};
 use x86_operand::DecodeError::{ExhaustedInput, InvalidOpcode, InvalidOperand};
 use x86_operand::RegisterBank::{D, Q, X, Y};
@@ -274,6 +282,17 @@ fn nothing_is_read_after_a_refusal(rt: HostRuntime) {
     }
 }
 
+/// The look-up of a key's entry with a counter of its own.
+fn look_up<L: Ledger>(key: &Key, blank: Blank) -> Option<Entry>
+    requires name { blank.name ≡ L.name }
+    requires parts { blank.parts ≡ L.parts }
+    requires some { 0 < blank.parts }
+    ensures listed { IfSome result (λ entry. Among entry table) }
+    ensures key { IfSome result (λ entry. has_key entry key.now ≡ true) }
+{
+    lookup(key, &mut Steps::<L>::new(blank))
+}
+
 /// Reads by the entry that the prefix and this opcode byte choose.
 #[tactic(auto, using(crate::specs::Reads::Laws::has_prefix))]
 fn read_by<R: Reader>(
@@ -290,7 +309,7 @@ fn read_by<R: Reader>(
         w: prefix.w,
         l: prefix.l,
     };
-    let entry = lookup(&key)?;
+    let entry = look_up::<Brand>(&key, Blank::new(1))?;
     Some(read_form(&entry, prefix, words))
 }
 

@@ -1,7 +1,6 @@
 -- What a caller of `read_form` needs, and no contract cites: an entry that was looked up has the prefix of the key.
-use Rattle.std.specs.Prelude.{◌≡◌, refl, ℕ, Bool, true, ◌&&◌, ◌==◌}
+use Rattle.std.specs.Prelude.{◌≡◌, refl, ℕ, Bool, true, false, ◌==◌}
 use Rattle.std.proofs.Common.{arith}
-use Rattle.std.proofs.lemmas.Bool.{eqb-true}
 use Rattle.x86_address.specs.Bytes.{bit}
 use Rattle.vex_rows.specs.declared.entry.Entry.{Entry}
 use Rattle.vex_rows.specs.declared.key.Map.{Map}
@@ -9,13 +8,10 @@ use Rattle.vex_rows.specs.declared.key.Map.TheVariants.{Map0F, Map0F38, Map0F3A}
 use Rattle.vex_rows.specs.declared.key.Pp.{Pp}
 use Rattle.vex_rows.specs.declared.key.Pp.TheVariants.{Plain, Prefix66, PrefixF3, PrefixF2}
 use Rattle.vex_rows.specs.declared.key.Prefix.{Prefix}
-use Rattle.vex_rows.specs.Rules.{has_key, allows, map_number, pp_number}
+use Rattle.vex_rows.specs.Rules.{has_key, map_number, pp_number}
+use Rattle.vex_rows.specs.Table.Laws.{from-has_key}
 use Rattle.vex_forms.specs.Fields.{fields_of}
 use Rattle.vex_forms.specs.Reads.{HasPrefix}
-
-both : (a b : Bool) → (a && b) ≡ true → (a ≡ true) × (b ≡ true)
-both true b h = (refl, h)
-both false b h = cc
 
 same_map : (a b : Map) → map_number a ≡ map_number b → a ≡ b
 same_map Map0F Map0F e = refl
@@ -36,15 +32,6 @@ bit_again false = refl
 
 -- an entry that has the key of a prefix and an opcode byte is one that the prefix chooses
 pub has_prefix : (entry : Entry) (prefix : Prefix) (byte : ℕ) → has_key entry (record { map = prefix.map; pp = prefix.pp; byte = byte; w = prefix.w; l = prefix.l }) ≡ true → HasPrefix entry (fields_of prefix)
-unfolding has_key
 has_prefix entry prefix byte h =
-    let at_l = both _ (allows entry.l prefix.l) h in
-    let at_w = both _ (allows entry.w prefix.w) at_l.0 in
-    let at_pp = both _ (pp_number entry.pp == pp_number prefix.pp) at_w.0 in
-    let at_map = both (entry.byte == byte) (map_number entry.map == map_number prefix.map) at_pp.0 in
-    record {
-      map = same_map _ _ (eqb-true _ _ at_map.1);
-      pp = same_pp _ _ (eqb-true _ _ at_pp.1);
-      w = at_w.1;
-      l = rw (bit_again prefix.l) at_l.1;
-    }
+    let key = from-has_key entry _ h in
+    record { map = same_map _ _ key.map; pp = same_pp _ _ key.pp; w = key.w; l = rw (bit_again prefix.l) key.l }
