@@ -6,6 +6,7 @@ use Rattle.x86_operand.specs.declared.error.DecodeError.{DecodeError}
 use Rattle.x86_operand.specs.declared.error.DecodeError.TheVariants.{ExhaustedInput, InvalidOpcode, InvalidOperand, Outside}
 use Rattle.x86_operand.specs.Kind.{Kind, WithoutModRM}
 use Rattle.x86_address.specs.Reading.{Reading, ◌>>=◌, take_byte, take_doubleword, take_short, take_long, take_displacement, take_baseless, take_scaled, take_sib, take_rip_based, take_based, take_place}
+use Rattle.x86_address.specs.Most.{left_by, TakesAtMost}
 use Rattle.vex_rows.specs.declared.entry.Entry.{Entry}
 use Rattle.vex_rows.specs.declared.key.Map.{Map}
 use Rattle.vex_rows.specs.declared.steps.Check.{Check}
@@ -17,11 +18,6 @@ use Rattle.vex_forms.specs.FormWalk.{passes, refusal, check_all, kind_of_mod, ta
 use Rattle.vex_decode.specs.Fields.{PrefixForm, C4, C5}
 use Rattle.vex_decode.specs.Spelling.{Syntax}
 use Rattle.vex_decode.specs.Walk.{map_of, fields_by_map, read_fields, form_of, read_prefix, key_of, entry_of, found, syntax_of, walk}
-
--- the bytes that a step leaves
-abbrev pub left_by : {A : Type 0} → Reading A → List ℕ
-left_by (Ok read) = read.1
-left_by (Err error) = error.1
 
 -- the same answer, with other bytes left
 abbrev pub leaving : {A : Type 0} → List ℕ → Reading A → Reading A
@@ -59,6 +55,10 @@ walk_on prefix = do
   entry ← found (entry_of (key_of prefix.0.1 byte.0)) byte.1
   operands ← walk_form entry.0 prefix.0.1 entry.1
   Ok ((row_of entry.0 prefix.0.1 operands.0, syntax_of prefix.0.0 prefix.0.1 operands.0), operands.1)
+
+-- and once it has read the first byte
+abbrev pub rest_of : PrefixForm → List ℕ → Reading (Row × Syntax)
+rest_of form bytes = read_fields form bytes >>= (λ fields. walk_on ((form, fields.0), fields.1))
 
 -- of errors that are all so
 module _ (P : DecodeError → Type 0) (exhausted : P ExhaustedInput) (opcode : P InvalidOpcode) (operand : P InvalidOperand) where
@@ -211,6 +211,32 @@ module _ (P : DecodeError → Type 0) (exhausted : P ExhaustedInput) (opcode : P
   pub after_form : (form : PrefixForm) → Fronts P 10 (λ bytes. (read_fields form bytes >>= (λ fields. Ok ((form, fields.0), fields.1))) >>= walk_on)
   after_form form = both 2 8 _ walk_on (both 2 0 (read_fields form) _ (fields form) (λ fields. answering _)) after_prefix
 
+  pub rest_fronts : (form : PrefixForm) → Fronts P 10 (rest_of form)
+  rest_fronts form = both 2 8 (read_fields form) _ (fields form) (λ fields. after_prefix (form, fields))
+
   pub walk_fronts : P Outside → Fronts P 11 walk
   unfolding walk
   walk_fronts outside = both 3 8 read_prefix walk_on (prefix outside) after_prefix
+
+-- any error
+abbrev pub Any : DecodeError → Type 0
+Any e = Unit {0}
+
+pub walk_most : TakesAtMost 11 walk
+walk_most = record { within = by }
+  where
+    by : (bytes : List ℕ) → length bytes ≤ 11 + length (left_by (walk bytes))
+    by bytes =
+        let f : Front Any 11 walk bytes (walk bytes) = (walk_fronts Any tt tt tt tt).at bytes in
+        let written : length bytes ≡ length (f.front ++ left_by (walk bytes)) = ap length f.written in
+        omega (arith, written, length-append f.front (left_by (walk bytes)), f.most)
+
+-- after the first byte
+pub rest_most : (form : PrefixForm) → TakesAtMost 10 (rest_of form)
+rest_most form = record { within = by }
+  where
+    by : (bytes : List ℕ) → length bytes ≤ 10 + length (left_by (rest_of form bytes))
+    by bytes =
+        let f : Front Any 10 (rest_of form) bytes (rest_of form bytes) = (rest_fronts Any tt tt tt form).at bytes in
+        let written : length bytes ≡ length (f.front ++ left_by (rest_of form bytes)) = ap length f.written in
+        omega (arith, written, length-append f.front (left_by (rest_of form bytes)), f.most)

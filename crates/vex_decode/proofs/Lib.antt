@@ -7,6 +7,13 @@ pub mod SpellingBytes
 pub mod Readers
 pub mod Fronts
 pub mod Refusing
+pub mod Recording
+pub mod NotesTaken
+mod NotesComputed
+pub mod NoteIs
+pub mod Decoding
+pub mod Slices
+pub mod Rests
 pub mod Permitted
 pub mod SpellingLaws
 pub mod Computed

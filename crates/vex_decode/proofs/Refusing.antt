@@ -9,6 +9,7 @@ use Rattle.x86_operand.specs.Meaning.{Meaning}
 use Rattle.x86_permit.specs.Permission.{permits}
 use Rattle.x86_address.specs.Bytes.{IsBytes}
 use Rattle.x86_address.specs.Reading.{Reading, ◌>>=◌}
+use Rattle.x86_address.specs.Most.{left_by}
 use Rattle.vex_rows.specs.Row.{Row, opcode_of}
 use Rattle.vex_forms.specs.Gives.{gives}
 use Rattle.vex_forms.specs.FormWalk.{taken, failure}
@@ -17,13 +18,9 @@ use Rattle.vex_decode.specs.Walk.{read_fields, walk}
 use Rattle.vex_decode.specs.Fields.{PrefixForm, C4, C5}
 use Rattle.vex_decode.specs.Blocked.{refused, blocked, fails}
 use Rattle.vex_decode.specs.Laws.{FirstBytes, AtMostEleven, SettingsLast, BeginsOutside, OutsideExactly, BeginsRefused, SettingsAlone}
-use Rattle.vex_decode.proofs.Fronts.{left_by, leaving, Front, Fronts, FailsBy, walk_on, after_form, walk_fronts}
+use Rattle.vex_decode.proofs.Fronts.{Any, leaving, Front, Fronts, FailsBy, walk_on, after_form, walk_fronts}
 use Rattle.vex_decode.proofs.Spells.{walk-spelling, opcode_meant, spells-parts}
 use Rattle.vex_decode.proofs.Walk.{walk-written}
-
--- any error
-abbrev Any : DecodeError → Type 0
-Any e = Unit {0}
 
 -- any error but that the first byte is another
 abbrev Inside : DecodeError → Type 0
@@ -116,7 +113,7 @@ outside_only settings (first ∷ rest) n e = by (first == 0xC5) (first == 0xC4) 
     record { first = first; rest = rest; is = refl; not_two = λ k. cc (eq-eqb first 0xC5 k); not_three = λ k. cc (eq-eqb first 0xC4 k) },
   )
 
-not_equal : (a b : ℕ) → a ≢ b → (a == b) ≡ false
+pub not_equal : (a b : ℕ) → a ≢ b → (a == b) ≡ false
 not_equal a b h = by (a == b) refl where
   by : (t : Bool) → (a == b) ≡ t → (a == b) ≡ false
   by true e = absurd (h (eqb-true a b e))
@@ -136,7 +133,7 @@ outside_exactly settings bytes n = (
 
 -- ---- the settings
 
-evex_meant : (row : Row) (parts : Syntax) → (meant row parts).evex ≡ false
+pub evex_meant : (row : Row) (parts : Syntax) → (meant row parts).evex ≡ false
 unfolding gives
 evex_meant row parts = refl
 

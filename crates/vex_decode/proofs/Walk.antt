@@ -31,12 +31,14 @@ use Rattle.vex_forms.specs.declared.slot.VvvvRule.{VvvvRule}
 use Rattle.vex_forms.specs.declared.slot.VvvvRule.TheVariants.{Named, Zero, Free}
 use Rattle.vex_forms.specs.Slots.{v_rule, demands_v}
 use Rattle.vex_forms.specs.Slots.Laws.{demanded, v_rule-demanded, v_rule-zero}
-use Rattle.vex_forms.specs.Fields.{Fields}
+use Rattle.vex_forms.specs.Fields.{Fields, fields_of}
+use Rattle.vex_rows.specs.declared.key.Prefix.{Prefix}
+use Rattle.vex_decode.specs.NotedWalk.{HasEntry}
 use Rattle.vex_decode.specs.Fields.{PrefixForm, prefix_bytes, IsPrefix}
 use Rattle.vex_decode.specs.Spelling.{Syntax, imm_bytes, bytes_of, FitsRule, FitsGroup, IsSyntax}
 use Rattle.vex_forms.specs.FormWalk.{passes, Operands, walk_form, row_of}
 use Rattle.vex_decode.specs.Walk.{read_prefix, key_of, entry_of, found, syntax_of, walk}
-use Rattle.vex_decode.proofs.Prefix.{ReadsPrefix, read_prefix-again, read_prefix-written}
+use Rattle.vex_decode.proofs.Prefix.{is_one-bit, ReadsPrefix, read_prefix-again, read_prefix-written}
 use Rattle.vex_decode.proofs.Form.{ReadsForm, WritesForm, step_then, walk_form-again, walk_form-written}
 
 -- the checks of an orderly form
@@ -186,6 +188,16 @@ entry_of-finds f byte entry e =
     let got = found-find (λ entry. has_key entry (key_of f byte)) table entry e in
     let has = from-has_key entry (key_of f byte) got.1 in
     record { listed = got.0; byte_is = has.byte; map = map_number-same _ _ (sym has.map); pp = pp_number-same _ _ (sym has.pp); w = has.w; l = has.l }
+
+-- an entry that has the key has the fields of the prefix
+pub has_entry : (prefix : Prefix) (byte : ℕ) (entry : Entry) → Among entry table → has_key entry (record { map = prefix.map; pp = prefix.pp; byte = byte; w = prefix.w; l = prefix.l }) ≡ true → HasEntry prefix byte entry
+has_entry prefix byte entry listed has =
+    let same = ap (λ l. has_key entry (record { map = prefix.map; pp = prefix.pp; byte = byte; w = prefix.w; l = l })) (is_one-bit prefix.l) in
+    let is = from-has_key entry (key_of (fields_of prefix) byte) (same ∙ has) in
+    record {
+      listed = listed;
+      chosen = record { map = sym (map_number-same _ _ (sym is.map)); pp = sym (pp_number-same _ _ (sym is.pp)); w = is.w; l = is.l };
+    }
 
 -- the group of a row is the reg field that was written
 group-same : (has : Bool) (gs : List (ℕ × Opcode)) (group : Option ℕ) (reg : ℕ) → Among group (if has then map (λ g. Some g.0) gs else None ∷ []) → FitsGroup group reg → (if has then Some reg else None) ≡ group

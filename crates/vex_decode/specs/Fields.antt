@@ -1,4 +1,4 @@
-use Rattle.std.specs.Prelude.{◌≡◌, ℕ, ◌+◌, ◌-◌, ◌*◌, ◌≤◌, Bool, false, List, [], ◌∷◌}
+use Rattle.std.specs.Prelude.{◌≡◌, ℕ, ◌+◌, ◌-◌, ◌*◌, ◌≤◌, Bool, false, not, ◌&&◌, ◌==◌, List, [], ◌∷◌, if◌then◌else◌}
 use Rattle.x86_address.specs.Bytes.{bit}
 use Rattle.vex_rows.specs.declared.key.Map.TheVariants.{Map0F}
 use Rattle.vex_rows.specs.Rules.{map_number, pp_number}
@@ -37,3 +37,11 @@ pub record IsPrefix (form : PrefixForm) (f : Fields) : Type 0 where
   pub r : f.r ≤ 1
   pub v : f.v ≤ 15
   pub can_say : CanSay form f
+
+-- whether the two-byte prefix can say the fields: map 0F, and W, X and B are 0 (Intel SDM volume 2, section 2.3.5)
+abbrev pub fits_two_bytes : Fields → Bool
+fits_two_bytes f = map_number f.map == 1 && not f.w && not f.x && not f.b
+
+-- the form of the shortest prefix that can say the fields
+abbrev pub shortest_form : Fields → PrefixForm
+shortest_form f = if fits_two_bytes f then C5 else C4

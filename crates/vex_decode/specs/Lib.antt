@@ -2,4 +2,9 @@ pub mod Fields
 pub mod Spelling
 pub mod Walk
 pub mod Blocked
+pub mod Noting
+pub mod Notes
+pub mod NotedWalk
+pub mod Decoding
+pub mod Outcome
 pub mod Laws

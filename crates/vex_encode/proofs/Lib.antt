@@ -4,7 +4,6 @@ pub mod Standard
 pub mod Canon
 pub mod CanonLaws
 pub mod Conditions
-pub mod Refusals
 pub mod Direct
 pub mod FirstSlot
 pub mod Assembled

@@ -12,10 +12,10 @@ use Rattle.vex_forms.specs.declared.row_layout.RowLayout.{RowLayout}
 use Rattle.vex_forms.specs.Layout.{IsLayout}
 use Rattle.vex_forms.specs.Gives.{gives}
 use Rattle.vex_forms.specs.Fields.{Fields, fields_of}
-use Rattle.vex_decode.specs.Fields.{prefix_bytes}
+use Rattle.vex_decode.specs.Fields.{prefix_bytes, shortest_form}
 use Rattle.vex_decode.specs.Spelling.{bytes_of, meant, imm_bytes}
 use Rattle.vex_forms.specs.declared.operand_fields.OperandFields.{OperandFields}
-use Rattle.vex_encode.specs.Standard.{candidate, standard, shortest_form}
+use Rattle.vex_encode.specs.Standard.{candidate, standard}
 use Rattle.vex_forms.specs.Operands.{target_seen}
 use Rattle.vex_encode.specs.Assembly.{place_for}
 use Rattle.vex_encode.specs.Encode.{standard_of}

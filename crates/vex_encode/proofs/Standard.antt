@@ -27,10 +27,10 @@ use Rattle.vex_forms.specs.Gives.{gives, slot_operand}
 use Rattle.vex_forms.specs.Tests.{immediates}
 use Rattle.vex_forms.specs.Slots.Laws.{sound_row, v_rule-zero}
 use Rattle.vex_forms.specs.Fields.{Fields}
-use Rattle.vex_decode.specs.Fields.{PrefixForm, C4, C5, FitsTwoBytes, CanSay, prefix_bytes}
+use Rattle.vex_decode.specs.Fields.{PrefixForm, C4, C5, FitsTwoBytes, CanSay, prefix_bytes, fits_two_bytes, shortest_form}
 use Rattle.vex_decode.specs.Spelling.{Syntax, imm_bytes, bytes_of, meant, FitsRule, FitsGroup, FitsReg, FitsImm, IsSyntax, SpellsBy}
 use Rattle.vex_decode.proofs.Form.{alone_form}
-use Rattle.vex_encode.specs.Standard.{operand_of_kind, number_of, imm_of, target_of, fits_two_bytes, shortest_form, fields_for, reg_for, candidate, standard}
+use Rattle.vex_encode.specs.Standard.{operand_of_kind, number_of, imm_of, target_of, fields_for, reg_for, candidate, standard}
 use Rattle.vex_encode.proofs.Candidate.{first_or_none, no_operand, e_given, map_same, slot_again}
 
 -- a form of prefix is chosen only where it can say the fields

@@ -1,10 +1,5 @@
 pub mod Standard
 pub mod Canon
-pub mod Reads
-pub mod Form
-pub mod Walk
-pub mod Facts
-pub mod Decodes
 pub mod Assembly
 pub mod Encode
 pub mod Recode

@@ -1,5 +1,5 @@
 -- Private functions alone cite what stands here.
-use Rattle.std.specs.Prelude.{◌≡◌, ◌≤◌, ℕ, length, Bool, true, false, List, take, Some, None, Result, Ok, Err}
+use Rattle.std.specs.Prelude.{◌≡◌, ◌≤◌, ℕ, length, Bool, true, List, take, Some, None, Result, Ok, Err}
 use Rattle.x86_operand.specs.declared.error.DecodeError.{DecodeError}
 use Rattle.x86_operand.specs.Meaning.{Decoded}
 use Rattle.x86_permit.specs.Permission.{permits}
@@ -12,7 +12,7 @@ pub record RecodesAs (settings : List Bool) (bytes : List ℕ) (decoded : Decode
   pub begun : blocked settings bytes ≡ None
   pub within : decoded.len ≤ length bytes
   pub spelled : Spells (take decoded.len bytes) decoded.meaning
-  pub permitted : permits settings false decoded.meaning.opcode ≡ true
+  pub permitted : permits settings decoded.meaning.evex decoded.meaning.opcode ≡ true
   pub canonical : canon decoded.meaning ≡ Some spelling
   pub same : Spells spelling decoded.meaning
   pub accepted : blocked settings spelling ≡ None

@@ -5,12 +5,11 @@ use Rattle.x86_operand.specs.Meaning.{OperandMeaning, register, signed, unsigned
 use Rattle.x86_operand.specs.Same.{same_meaning}
 use Rattle.x86_address.specs.Place.{Target, NoTarget, Number, At, Numbered}
 use Rattle.x86_address.specs.Shortest.{shortest, plain, x_of, b_of}
-use Rattle.vex_rows.specs.Rules.{map_number}
 use Rattle.vex_rows.specs.Row.{Row}
 use Rattle.vex_forms.specs.declared.slot.Slot.{Slot}
 use Rattle.vex_forms.specs.Slots.{slots, names_g, names_v, names_e, names_imm}
 use Rattle.vex_forms.specs.Fields.{Fields}
-use Rattle.vex_decode.specs.Fields.{PrefixForm, C4, C5}
+use Rattle.vex_decode.specs.Fields.{shortest_form}
 use Rattle.vex_decode.specs.Spelling.{Syntax, bytes_of, meant}
 
 -- the operand at the first slot of a kind, nothing where there is none
@@ -41,14 +40,6 @@ target_of WithoutModRM operand = NoTarget
 target_of InRegister operand = Number (number_of operand)
 target_of InMemory (memory address) = At (plain address)
 target_of InMemory _ = At (record { base = Numbered 0; index = None; disp = pos 0 })
-
--- whether the two-byte prefix can say the fields: map 0F, and W, X and B are 0 (Intel SDM volume 2, section 2.3.5)
-abbrev pub fits_two_bytes : Fields → Bool
-fits_two_bytes f = map_number f.map == 1 && not f.w && not f.x && not f.b
-
--- the form of the shortest prefix that can say the fields
-abbrev pub shortest_form : Fields → PrefixForm
-shortest_form f = if fits_two_bytes f then C5 else C4
 
 -- the fields of the prefix: map, implied prefix, W and L are the row's, and R, X, B and vvvv are what the operands
 -- demand

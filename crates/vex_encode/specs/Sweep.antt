@@ -83,7 +83,7 @@ swept settings bytes = swept_from settings 0 0 bytes
 pub record IsPermitted (settings : List Bool) (item : SweptItem) : Type 0 where
   pub spelled : Spells item.bytes item.decoded.meaning
   pub long : item.decoded.len ≡ length item.bytes
-  pub permitted : permits settings false item.decoded.meaning.opcode ≡ true
+  pub permitted : permits settings item.decoded.meaning.evex item.decoded.meaning.opcode ≡ true
   pub canonical : canon item.decoded.meaning ≡ Some item.spelling
 
 -- each item begins where the ones before it end

@@ -2,18 +2,13 @@
 #![tactic(auto)]
 
 mod assembly;
-mod bytes;
-mod decode;
 mod encode;
-mod form;
 pub mod laws;
-mod prefix;
 mod recoder;
 mod slot_kind;
 mod spell;
 mod spelling;
 mod sweeper;
-mod walk;
 
 pub use recoder::recode;
 pub use spelling::Spelling;

@@ -1,25 +1,23 @@
 //! Decoding the instruction at the front of a slice, and its canonical bytes.
 
-ghost use Rattle.std.specs.Prelude.{◌≡◌, ◌≤◌, ◌↔◌, length, ℕ, IsOk, IfOk, IfErr, Some, None, true, false, take};
+ghost use Rattle.std.specs.Prelude.{◌≡◌, ◌≤◌, ◌↔◌, length, ℕ, IsOk, IfOk, IfErr, Some, None, true, take};
 ghost use Rattle.x86_permit.specs.Permission.{permits};
 ghost use Rattle.vex_decode.specs.Spelling.{Spells};
 ghost use Rattle.vex_decode.specs.Blocked.{blocked};
 ghost use Rattle.vex_encode.specs.Canon.{canon};
 ghost use Rattle.vex_encode.specs.Recode.{Recodes};
 
-use crate::decode::decode;
 use crate::encode::canonical;
 use crate::spelling::Spelling;
+use vex_decode::Decoder;
 use x86_operand::{DecodeError, Instruction};
-use x86_permit::revise_instruction;
 use x86_settings::InstDecoder;
 
 /// The instruction and its canonical bytes, with all that is known of them at once.
 fn recode_all(decoder: &InstDecoder, bytes: &[u8]) -> Result<(Instruction, Spelling), DecodeError>
     ensures { Recodes decoder.now bytes.now result }
 {
-    let mut instruction = decode(bytes)?;
-    revise_instruction(decoder, &mut instruction)?;
+    let instruction = decoder.decode_slice(bytes)?;
     match canonical(&instruction) {
         Some(spelling) => Ok((instruction, spelling)),
         None => unreachable!(),
@@ -37,7 +35,7 @@ pub fn recode(decoder: &InstDecoder, bytes: &[u8]) -> Result<(Instruction, Spell
     ensures begun { IsOk result ↔ (blocked decoder.now bytes.now ≡ None) }
     ensures within { IfOk result (λ recoded. recoded.0.len ≤ length bytes.now) }
     ensures spelled { IfOk result (λ recoded. Spells (take recoded.0.len bytes.now) recoded.0.meaning) }
-    ensures permitted { IfOk result (λ recoded. permits decoder.now false recoded.0.meaning.opcode ≡ true) }
+    ensures permitted { IfOk result (λ recoded. permits decoder.now recoded.0.meaning.evex recoded.0.meaning.opcode ≡ true) }
 
     // The canonical bytes spell the same meaning, and are accepted under the same settings.
     ensures canonical { IfOk result (λ recoded. canon recoded.0.meaning ≡ Some recoded.1) }

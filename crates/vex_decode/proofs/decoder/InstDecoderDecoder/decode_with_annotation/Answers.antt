@@ -1,0 +1,30 @@
+use Rattle.std.proofs.Common.{refl}
+use Rattle.vex_decode.proofs.Rests.{notes_kept}
+use Rattle.vex_decode.proofs.decoder.InstDecoderDecoder.decode_with_annotation.Goals as goal
+
+pub returns-in-Ok-clause-decoded : goal.returns-in-Ok-clause-decoded
+returns-in-Ok-clause-decoded g c = c.in-Ok.ensures.took
+
+pub returns-in-Ok-clause-complete : goal.returns-in-Ok-clause-complete
+returns-in-Ok-clause-complete g c = λ front rest m told spells permitted uncounted. refl
+
+pub returns-in-Ok-clause-noted : goal.returns-in-Ok-clause-noted
+returns-in-Ok-clause-noted g c = c.in-Ok.ensures.noted
+
+pub returns-in-Ok-clause-kept : goal.returns-in-Ok-clause-kept
+returns-in-Ok-clause-kept g c = notes_kept c.in-Ok.ensures.noted
+
+pub returns-in-Err-clause-refused : goal.returns-in-Err-clause-refused
+returns-in-Err-clause-refused g c = c.in-Err.ensures.took.0
+
+pub returns-in-Err-clause-complete : goal.returns-in-Err-clause-complete
+returns-in-Err-clause-complete g c = c.in-Err.ensures.complete
+
+pub returns-in-Err-clause-slice : goal.returns-in-Err-clause-slice
+returns-in-Err-clause-slice g c = c.in-Err.ensures.took.1
+
+pub returns-in-Err-clause-noted : goal.returns-in-Err-clause-noted
+returns-in-Err-clause-noted g c = c.in-Err.ensures.noted
+
+pub returns-in-Err-clause-kept : goal.returns-in-Err-clause-kept
+returns-in-Err-clause-kept g c = notes_kept c.in-Err.ensures.noted

@@ -1,0 +1,11 @@
+use Rattle.std.proofs.Common.{refl, ap, sym, ◌∙◌}
+use Rattle.x86_address.specs.Follows.Laws.{follows_ok, follows_err, follows_decided, follows_map, follows_then}
+use Rattle.vex_decode.proofs.Recording.{noting_silent, noting_then, noting_seen, noting_fails, noting_noted, noting_map, noting_value}
+use Rattle.vex_decode.specs.Fields.{C5}
+use Rattle.vex_decode.proofs.reading.read_after_two.Goals as goal
+
+pub returns-in_err-prefix : goal.returns-in_err-prefix
+returns-in_err-prefix g c = noting_fails _ _ c.from_residual.ensures c.in_err-prefix.ensures.follows
+
+pub returns : goal.returns
+returns g c = noting_seen _ _ c.in_ok-prefix.ensures.follows (c.read_from_opcode.ensures C5 refl)

@@ -1,0 +1,254 @@
+//! What no clause shows: the calls at readers and sinks of each kind, and the instructions and notes of given bytes.
+
+use crate::{Decoder, shortest_prefix, three_byte_vex, two_byte_vex};
+use std::process::Abort;
+use vex_rows::{Map, Pp, Prefix};
+use x86_operand::DecodeError::{ExhaustedInput, InvalidOpcode, InvalidOperand, Outside};
+use x86_operand::InnerDescription::{Boundary, Misc, RegisterNumber};
+use x86_operand::{
+    DecodeError, FieldDescription, InnerDescription, Instruction, Note, Opcode, RegSpec,
+    RegisterBank,
+};
+use x86_reader::{FailReader, ListSink, NullSink, Reader, U8Reader};
+use x86_settings::InstDecoder;
+
+/// The bytes of `VZEROUPPER`.
+const VZEROUPPER: [u8; 3] = [0xC5, 0xF8, 0x77];
+
+/// The bytes of `VMOVAPS` from `xmm8` to `xmm0`.
+const VMOVAPS: [u8; 5] = [0xC4, 0xC1, 0x78, 0x28, 0xC0];
+
+/// An instruction that no decode below answers.
+fn other() -> Instruction {
+    Instruction::of(Opcode::VADDPS, true)
+}
+
+fn register(number: u8) -> InnerDescription
+    requires { number < 16 }
+{
+    RegisterNumber(number, RegSpec::of(RegisterBank::X, number).unwrap())
+}
+
+#[test]
+fn a_reader_is_left_after_the_bytes_taken(rt: HostRuntime) {
+    let decoder = InstDecoder::default();
+    let mut words = U8Reader::new(&[0xC5, 0xF8, 0x77, 0xFF]);
+    let decoded = decoder.decode(&mut words);
+    assert_eq!(rt;
+        decoded.map(|instruction| (instruction.opcode(), instruction.len())),
+        Ok((Opcode::VZEROUPPER, 3))
+    );
+    assert_eq!(rt; (words.offset(), words.total_offset()), (3, 3));
+    assert_eq!(rt;
+        decoder
+            .decode(&mut words)
+            .map(|instruction| instruction.len()),
+        Err(Outside)
+    );
+    assert_eq!(rt; (words.offset(), words.total_offset()), (1, 4));
+
+    let mut instruction = other();
+    let mut words = U8Reader::new(&[0xC5, 0xF0, 0x28, 0xC1]);
+    assert_eq!(rt;
+        decoder.decode_into(&mut instruction, &mut words),
+        Err(InvalidOperand)
+    );
+    assert_eq!(rt; instruction, Instruction::default());
+    assert_eq!(rt; words.total_offset(), 3);
+}
+
+#[test]
+fn each_call_answers_the_same(rt: HostRuntime) {
+    let cases: [(&[u8], Result<u8, DecodeError>); 9] = [
+        (&VZEROUPPER, Ok(3)),
+        (&VMOVAPS, Ok(5)),
+        (&[], Err(ExhaustedInput)),
+        (&[0x33, 0xC0], Err(Outside)),
+        (&[0xC4, 0x00], Err(ExhaustedInput)),
+        (&[0xC4, 0xE0, 0x78, 0x58, 0xC0], Err(InvalidOpcode)),
+        (&[0xC4, 0xE3, 0x78, 0x0F, 0xC0, 0x00], Err(InvalidOpcode)),
+        (&[0xC5, 0xE8, 0x77], Err(InvalidOperand)),
+        (&[0xC5, 0xF8], Err(ExhaustedInput)),
+    ];
+    let decoder = InstDecoder::default();
+    for (bytes, answer) in cases {
+        let expected = answer.map(|_| ());
+        let len = answer.unwrap_or(0);
+        let mut instruction = other();
+        assert_eq!(rt;
+            decoder.decode_slice(bytes).map(|decoded| decoded.len()),
+            answer
+        );
+        assert_eq!(rt;
+            decoder
+                .decode(&mut FailReader::new(bytes, &[]))
+                .map(|decoded| decoded.len()),
+            answer
+        );
+        assert_eq!(rt;
+            decoder.decode_into(&mut instruction, &mut FailReader::new(bytes, &[])),
+            expected
+        );
+        assert_eq!(rt; instruction.len(), len);
+        let mut instruction = other();
+        assert_eq!(rt;
+            decoder.decode_with_annotation(
+                &mut instruction,
+                &mut U8Reader::new(bytes),
+                &mut NullSink
+            ),
+            expected
+        );
+        assert_eq!(rt; instruction.len(), len);
+    }
+}
+
+#[test]
+fn the_settings_are_asked_last(rt: HostRuntime) {
+    let decoder = InstDecoder::minimal();
+    assert_eq!(rt;
+        decoder
+            .decode_slice(&VZEROUPPER)
+            .map(|decoded| decoded.len()),
+        Err(InvalidOpcode)
+    );
+    assert_eq!(rt;
+        decoder
+            .decode_slice(&[0xC5, 0xF8])
+            .map(|decoded| decoded.len()),
+        Err(ExhaustedInput)
+    );
+    assert_eq!(rt;
+        decoder
+            .decode_slice(&[0xC5, 0xE8, 0x77])
+            .map(|decoded| decoded.len()),
+        Err(InvalidOperand)
+    );
+}
+
+/// The reader refuses at each call in turn.
+fn refused_at_each_call(rt: &impl Abort, bytes: &[u8]) {
+    let decoder = InstDecoder::default();
+    for call in 0..bytes.len() {
+        let failing = [call as u64];
+        let mut words = FailReader::new(bytes, &failing);
+        let mut instruction = other();
+        let mut sink: ListSink<FieldDescription> = ListSink::new();
+        let answer = decoder.decode_with_annotation(&mut instruction, &mut words, &mut sink);
+        assert_eq!(rt; answer, Err(ExhaustedInput), "at call {call}");
+        assert_eq!(rt; instruction, Instruction::default());
+        assert_eq!(rt; words.total_offset(), call as u64);
+    }
+}
+
+#[test]
+fn a_refused_byte_is_exhausted_input(rt: HostRuntime) {
+    refused_at_each_call(&rt, &VZEROUPPER);
+    refused_at_each_call(&rt, &VMOVAPS);
+}
+
+/// The notes on bytes are these, each with its first bit, its last bit and its number.
+fn has_notes(rt: &impl Abort, bytes: &[u8], notes: &[(u32, u32, u32, InnerDescription)]) {
+    let mut sink = ListSink::new();
+    let mut instruction = other();
+    let mut words = U8Reader::new(bytes);
+    let _ = InstDecoder::default().decode_with_annotation(&mut instruction, &mut words, &mut sink);
+    assert_eq!(rt; sink.len(), notes.len());
+    for (i, (start, end, id, what)) in notes.iter().enumerate() {
+        assert_eq!(rt; sink.get(i), Some(&(*start, *end, what.with_id(*id))));
+    }
+}
+
+#[test]
+fn the_notes_are_those_on_the_bytes_taken(rt: HostRuntime) {
+    has_notes(
+        &rt,
+        &VZEROUPPER,
+        &[
+            (8, 9, 8, Misc(Note::P0)),
+            (11, 14, 10, register(0)),
+            (10, 10, 9, Misc(Note::R0)),
+            (15, 15, 9, Misc(Note::W1)),
+            (23, 23, 23, Boundary(Note::PrefixEnd)),
+            (16, 23, 16, InnerDescription::Opcode(Opcode::VZEROUPPER)),
+            (23, 23, 23, Boundary(Note::OpcodeEnd)),
+        ],
+    );
+    has_notes(
+        &rt,
+        &VMOVAPS,
+        &[
+            (16, 17, 8, Misc(Note::P0)),
+            (8, 12, 8, Misc(Note::M1)),
+            (19, 22, 10, register(0)),
+            (15, 15, 9, Misc(Note::R1)),
+            (14, 14, 9, Misc(Note::X1)),
+            (13, 13, 9, Misc(Note::B0)),
+            (18, 18, 9, Misc(Note::L0)),
+            (23, 23, 9, Misc(Note::W0)),
+            (31, 31, 31, Boundary(Note::PrefixEnd)),
+            (24, 31, 24, InnerDescription::Opcode(Opcode::VMOVAPS)),
+            (31, 31, 31, Boundary(Note::OpcodeEnd)),
+        ],
+    );
+
+    // A map number that names no map, and a prefix that isn't whole.
+    has_notes(
+        &rt,
+        &[0xC4, 0xE0, 0x78],
+        &[(16, 17, 8, Misc(Note::P0)), (8, 12, 8, Misc(Note::MOther))],
+    );
+    has_notes(&rt, &[0xC4, 0xE1], &[]);
+}
+
+#[test]
+fn a_prefix_is_decoded_after_its_first_byte(rt: HostRuntime) {
+    let mut instruction = other();
+    let mut words = U8Reader::new(&VZEROUPPER);
+    let first = words.next();
+    assert!(rt; first.is_ok());
+    assert_eq!(rt; words.offset(), 1);
+    assert_eq!(rt;
+        two_byte_vex(&mut words, &mut instruction, &mut NullSink),
+        Ok(())
+    );
+    assert_eq!(rt;
+        (instruction.opcode(), instruction.len()),
+        (Opcode::VZEROUPPER, 3)
+    );
+
+    let mut words = FailReader::new(&VMOVAPS, &[4]);
+    let first = words.next();
+    assert!(rt; first.is_ok());
+    assert_eq!(rt; words.offset(), 1);
+    let mut sink: ListSink<FieldDescription> = ListSink::new();
+    assert_eq!(rt;
+        three_byte_vex(&mut words, &mut instruction, &mut sink),
+        Err(ExhaustedInput)
+    );
+    assert_eq!(rt; instruction, Instruction::default());
+    assert_eq!(rt; (words.total_offset(), sink.len()), (4, 11));
+}
+
+#[test]
+fn the_shortest_prefix_has_two_bytes_where_they_can_say_it(rt: HostRuntime) {
+    let prefix = Prefix {
+        map: Map::Map0F,
+        pp: Pp::Plain,
+        w: false,
+        l: false,
+        r: false,
+        x: false,
+        b: false,
+        vvvv: 0,
+    };
+    assert_eq!(rt;
+        shortest_prefix(&prefix).as_slice(),
+        [0xC5, 0xF8].as_slice()
+    );
+    let upper = Prefix { b: true, ..prefix };
+    assert_eq!(rt;
+        shortest_prefix(&upper).as_slice(),
+        [0xC4, 0xC1, 0x78].as_slice()
+    );
+}
