@@ -80,7 +80,7 @@ def cells(table):
 
 def places(table):
     """The places of each opcode's entries one after another, and where those of each opcode begin."""
-    parts, _, count = read(HERE / "opcodes.txt")
+    parts, count = read(HERE / "opcodes.txt")
     numbers = {"Invalid": 0, "BSF": 1}
     for part in parts:
         for i, name in enumerate(part.names()):

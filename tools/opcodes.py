@@ -1,20 +1,25 @@
 #!/usr/bin/env python3
 """Writes the long lists of crates/x86_opcode from tools/opcodes.txt.
 
-These are, in src/: the enum of each part of `Opcode` (the end of lib.rt), a file for each part with
-its constants, names and conditions, and the list of all opcodes (list.rt); in specs/: the numbers,
-the names, the conditions and the VEX opcodes; in proofs/: the lemmas that go opcode by opcode.
-Run it at the top of the repository, and then `rt tidy` in crates/x86_opcode.
+    python3 tools/opcodes.py          writes them into crates/x86_opcode
+    python3 tools/opcodes.py FOLDER   writes them into FOLDER, which tools/compare_opcodes compares with the crate
+
+These are, in src/: the enum of opcodes and of each part (lib.rt), a file for each part with its constants, names and
+conditions, the list of all opcodes (list.rt) and where the opcode of a name stands (slots.rt); in specs/: the numbers,
+the names, the constants, the conditions and the VEX opcodes, with the lemmas that go opcode by opcode; in proofs/: the
+tags. No file of the crate is written in part by hand and in part by this script.
 """
+import re
+import sys
 from pathlib import Path
 
 HERE = Path(__file__).resolve().parent
 CRATE = HERE.parent / "crates" / "x86_opcode"
 NOTE = "written by tools/opcodes.py"
-MARKER = f"// What follows is {NOTE}.\n"
 VEX_PARTS = ("Integer", "Float", "Fused")
 ALTERNATIVES = 25  # of one arm of a match
 REST = 50  # a last condition with more names than this is the arm for the rest
+WIDTH = 100  # of a line of code
 
 
 class Part:
@@ -38,16 +43,14 @@ class Part:
 
 
 def read(path):
-    """The parts, the names of VEX parts that no VEX instruction has, and the number of opcodes."""
-    parts, without_vex = [], []
+    """The parts, and the number of opcodes."""
+    parts = []
     for line in path.read_text().splitlines():
         if line.startswith("#") or not line.strip():
             continue
         if line.startswith("part "):
             name, doc = line.removeprefix("part ").split(": ")
             parts.append(Part(name, doc))
-        elif line == "without VEX:":
-            into = without_vex
         else:
             if ":" in line:
                 condition, line = line.split(":")
@@ -57,50 +60,63 @@ def read(path):
     for part in parts:
         part.first = first
         first += len(part.names())
-    return parts, without_vex, first
+    return parts, first
 
 
-def write(folder, name, lines):
-    (CRATE / folder / name).write_text("\n".join(lines) + "\n")
+def all_names(parts):
+    return ["Invalid", "BSF"] + [name for part in parts for name in part.names()]
 
 
 # ---- src/
 
 
 def enums(parts):
-    """The end of lib.rt."""
-    head = (CRATE / "src" / "lib.rt").read_text().split(MARKER)[0]
-    text = [head + MARKER]
+    text = [f"//! The names of x86 opcodes that the decoder and its settings speak of: the types, {NOTE}."]
+    text += ["#![tactic(auto)]", "", "mod condition;"]
+    modules = [part.low for part in parts] + ["laws", "list", "name", "number", "slots"]
+    text += [f"mod {name};" for name in sorted(modules)]
+    text += ["#[cfg(test)]", "mod tests;", ""]
+    text += ["pub use condition::Condition;", "pub use laws::constants_have_their_names;", ""]
+    text += ["/// An opcode: an enum of parts by subject, with one constant for each name, as `Opcode::VADDPS`."]
+    text += ["#[derive(Clone, Copy, PartialEq, Eq, Default)]", "pub enum Opcode {"]
+    text += ["    /// No instruction: what an entry announces where a group or the operand decides."]
+    text += ["    #[default]", "    Invalid,"]
+    text += ["    /// Bit scan forward: what a `TZCNT` is without the setting `bmi1`.", "    BSF,"]
     for part in parts:
-        text += [f"/// {part.doc}", "#[derive(Clone, Copy, PartialEq, Eq)]"]
-        text += [f"pub enum {part.enum} {{", *(f"    {name}," for name in part.names()), "}", ""]
-    return text[:-1]
+        text += [f"    /// {part.doc}", f"    {part.name}({part.enum}),"]
+    text += ["}"]
+    for part in parts:
+        text += ["", f"/// {part.doc}", "#[derive(Clone, Copy, PartialEq, Eq)]"]
+        text += [f"pub enum {part.enum} {{", *(f"    {name}," for name in part.names()), "}"]
+    return text
 
 
 def listing(parts, count):
-    return [
-        f"// The list of all opcodes, {NOTE}.",
-        "use crate::Opcode;",
-        "",
-        "// The number of the first opcode of each part.",
-        *(f"pub(crate) const FIRST_{part.name.upper()}: u16 = {part.first};" for part in parts),
-        "",
-        "/// All opcodes, in the order of their numbers.",
-        f"pub(crate) static ALL: [Opcode; {count}] = [",
-        "    Opcode::Invalid,",
-        "    Opcode::BSF,",
-        *(f"    Opcode::{name}," for part in parts for name in part.names()),
-        "];",
-    ]
+    text = [f"// The list of all opcodes, {NOTE}.", "use crate::Opcode;", ""]
+    text += ["// The number of the first opcode of each part."]
+    for part in parts:
+        text += [f"pub(crate) const FIRST_{part.name.upper()}: u16 = {part.first};", ""]
+    text += ["/// All opcodes, in the order of their numbers."]
+    text += [f"pub(crate) static ALL: [Opcode; {count}] = ["]
+    return text + [*(f"    Opcode::{name}," for name in all_names(parts)), "];"]
 
 
 def condition_arms(part):
     groups, rest = part.conditions()
     for condition, names in groups:
         for at in range(0, len(names), ALTERNATIVES):
-            some = names[at : at + ALTERNATIVES]
-            pattern = " | ".join(f"{part.enum}::{name}" for name in some)
-            yield f"            {pattern} => Condition::{condition},"
+            some = [f"{part.enum}::{name}" for name in names[at : at + ALTERNATIVES]]
+            line = f"            {' | '.join(some)} => Condition::{condition},"
+            if len(line) <= WIDTH:
+                yield line
+            elif len("            " + " | ".join(some) + " => {") <= WIDTH:
+                yield f"            {' | '.join(some)} => {{"
+                yield f"                Condition::{condition}"
+                yield "            }"
+            else:
+                yield f"            {some[0]}"
+                yield from (f"            | {name}" for name in some[1:-1])
+                yield f"            | {some[-1]} => Condition::{condition},"
     if rest:
         yield f"            _ => Condition::{rest},"
 
@@ -113,12 +129,13 @@ def part_file(part):
         text += ["ghost use Rattle.x86_opcode.specs.Condition.{opcode_condition};"]
     text += ["ghost use Rattle.x86_opcode.specs.Name.{opcode_name};"]
     text += [f"ghost use Rattle.x86_opcode.specs.declared.Opcode.TheVariants.{{{part.name}}};", ""]
-    text += ["use crate::Condition;"] if conditional else []
-    text += [f"use crate::{{{part.enum}, Opcode}};", "use std::fmt;"]
+    used = sorted(["Opcode", part.enum] + (["Condition"] if conditional else []))
+    text += [f"use crate::{{{', '.join(used)}}};", "use std::fmt;"]
     text += ["", f"/// {part.doc}", "impl Opcode {"]
     for name in part.names():
-        text += [f"    pub const {name}: Opcode = Opcode::{part.name}({part.enum}::{name});"]
-    text += ["}", "", f"impl {part.enum} {{"]
+        text += [f"    pub const {name}: Opcode = Opcode::{part.name}({part.enum}::{name});", ""]
+    text[-1] = "}"
+    text += ["", f"impl {part.enum} {{"]
     text += ["    /// The opcode's name, spelled as its variant."]
     text += ["    #[tactic(auto, unfolding(crate::specs::Name::opcode_name))]"]
     text += ["    pub fn name(&self) -> &'static str"]
@@ -138,16 +155,72 @@ def part_file(part):
     return text + ["        f.write_str(self.name())", "    }", "}"]
 
 
+# The hash of a name and the place that it leads to, as in specs/Slots.antt.
+FACTOR, MODULUS, BUCKETS, SLOTS = 35, 1 << 20, 256, 768
+
+
+def hash_of(name):
+    value = 0
+    for byte in name.encode():
+        value = (value * FACTOR + byte) % MODULUS
+    return value
+
+
+def places(names):
+    """How far each bucket is moved on, and the name on each slot: the first shift that leaves each slot to one name."""
+    buckets = {}
+    for name in names:
+        buckets.setdefault(hash_of(name) % BUCKETS, []).append(name)
+    shifts, slots = [0] * BUCKETS, {}
+    for bucket, some in sorted(buckets.items(), key=lambda item: (-len(item[1]), item[0])):
+        for shift in range(SLOTS):
+            wanted = [(hash_of(name) // BUCKETS + shift) % SLOTS for name in some]
+            if len(set(wanted)) == len(some) and not any(slot in slots for slot in wanted):
+                shifts[bucket] = shift
+                slots.update(zip(wanted, some))
+                break
+        else:
+            raise SystemExit("no shift is left for a bucket of names: take another FACTOR")
+    return shifts, slots
+
+
+def slot_file(parts):
+    shifts, slots = places(all_names(parts))
+    text = [f"// Where the opcode of a name stands, {NOTE}.", "use crate::Opcode;", ""]
+    text += ["/// How far the names of a bucket are moved on."]
+    text += [f"pub(crate) static SHIFTS: [u16; {BUCKETS}] = ["]
+    line = "   "
+    for shift in shifts:
+        if len(line) + len(f" {shift},") >= WIDTH:
+            text += [line]
+            line = "   "
+        line += f" {shift},"
+    text += [line, "];", "", "/// The one opcode whose name can lead to a slot, and `Invalid` where there is none."]
+    text += [f"pub(crate) static SLOTS: [Opcode; {SLOTS}] = ["]
+    text += [f"    Opcode::{slots.get(slot, 'Invalid')}," for slot in range(SLOTS)]
+    return text + ["];"]
+
+
 # ---- specs/ and proofs/
 
 
-def declared(parts):
-    heads = ", ".join(["Invalid", "BSF"] + [part.name for part in parts])
-    yield "use Rattle.x86_opcode.specs.declared.Opcode.{Opcode}"
-    yield f"use Rattle.x86_opcode.specs.declared.Opcode.TheVariants.{{{heads}}}"
+def imports(parts, body):
+    """The lines that bring in the types and the variants that the body speaks of."""
+    text = "\n".join(body)
+
+    def has(word):
+        return re.search(rf"(?<![\w.]){word}(?!\w)", text)
+
+    heads = [name for name in ["Invalid", "BSF"] + [part.name for part in parts] if has(name)]
+    if has("Opcode"):
+        yield "use Rattle.x86_opcode.specs.declared.Opcode.{Opcode}"
+    if heads:
+        yield f"use Rattle.x86_opcode.specs.declared.Opcode.TheVariants.{{{', '.join(heads)}}}"
     for part in parts:
-        yield f"use Rattle.x86_opcode.specs.declared.{part.enum}.{{{part.enum}}}"
-        yield f"use Rattle.x86_opcode.specs.declared.{part.enum}.TheVariants as {part.low}"
+        if has(part.enum):
+            yield f"use Rattle.x86_opcode.specs.declared.{part.enum}.{{{part.enum}}}"
+        if has(rf"{part.low}\.(?=\w)".replace(r"(?!\w)", "")) or f" {part.low}." in text or f"({part.low}." in text:
+            yield f"use Rattle.x86_opcode.specs.declared.{part.enum}.TheVariants as {part.low}"
 
 
 def by_part(parts, what, kind, meaning, value):
@@ -160,62 +233,73 @@ def by_part(parts, what, kind, meaning, value):
 
 
 def numbers(parts):
-    text = [f"-- The numbers of opcodes, {NOTE}."]
-    text += ["use Rattle.std.specs.Prelude.{ℕ, ◌+◌, Bool, ◌==◌}", *declared(parts)]
-    text += by_part(parts, "number", "ℕ", "the place of an opcode in its part", lambda place, _: place)
-    text += ["", "-- the number of an opcode: the parts stand one after another"]
-    text += ["unfoldable pub opcode_number : Opcode → ℕ"]
-    text += ["opcode_number Invalid = 0", "opcode_number BSF = 1"]
+    body = [*by_part(parts, "number", "ℕ", "the place of an opcode in its part", lambda place, _: place)]
+    body += ["", "-- the number of an opcode: the parts stand one after another"]
+    body += ["unfoldable pub opcode_number : Opcode → ℕ"]
+    body += ["opcode_number Invalid = 0", "opcode_number BSF = 1"]
     for part in parts:
-        text += [f"opcode_number ({part.name} o) = {part.first} + {part.low}_number o"]
-    text += ["", "-- whether two opcodes are one, told by their numbers"]
-    text += ["unfoldable pub same_opcode : Opcode → Opcode → Bool"]
-    return text + ["same_opcode a b = opcode_number a == opcode_number b"]
+        body += [f"opcode_number ({part.name} o) = {part.first} + {part.low}_number o"]
+    body += ["", "-- whether two opcodes are one, told by their numbers"]
+    body += ["unfoldable pub same_opcode : Opcode → Opcode → Bool"]
+    body += ["same_opcode a b = opcode_number a == opcode_number b"]
+    text = [f"-- The numbers of opcodes, {NOTE}.", "pub mod Listed", "pub mod Laws"]
+    text += ["use Rattle.std.specs.Prelude.{ℕ, ◌+◌, Bool, ◌==◌}"]
+    return text + [*imports(parts, body), *body]
 
 
 def names(parts):
-    text = [f"-- The names of opcodes, {NOTE}."]
-    text += ["use Rattle.std.specs.Prelude.{ℕ, List, codes}", *declared(parts)]
-    text += by_part(parts, "name", "List ℕ", "the name of an opcode", lambda _, name: f'codes "{name}"')
-    text += ["", "-- the name of an opcode, spelled as its constant"]
-    text += ["unfoldable pub opcode_name : Opcode → List ℕ"]
-    text += ['opcode_name Invalid = codes "Invalid"', 'opcode_name BSF = codes "BSF"']
-    return text + [f"opcode_name ({part.name} o) = {part.low}_name o" for part in parts]
+    body = [*by_part(parts, "name", "List ℕ", "the name of an opcode", lambda _, name: f'codes "{name}"')]
+    body += ["", "-- the name of an opcode, spelled as its constant"]
+    body += ["unfoldable pub opcode_name : Opcode → List ℕ"]
+    body += ['opcode_name Invalid = codes "Invalid"', 'opcode_name BSF = codes "BSF"']
+    body += [f"opcode_name ({part.name} o) = {part.low}_name o" for part in parts]
+    text = [f"-- The names of opcodes, {NOTE}.", "use Rattle.std.specs.Prelude.{ℕ, List, codes}"]
+    return text + [*imports(parts, body), *body]
+
+
+def constants(parts):
+    text = [f"-- The constants of opcodes, {NOTE}."]
+    text += ["use Rattle.std.specs.Prelude.{ℕ, List, [], ◌∷◌, codes}"]
+    text += ["use Rattle.x86_opcode.specs.declared.Opcode.{Opcode}"]
+    text += ["use Rattle.x86_opcode.specs.declared.TheConstants.Opcode as constant"]
+    text += ["", "-- each constant, with the name that it is called by"]
+    text += ["unfoldable pub constants : List (Opcode × List ℕ)", "constants ="]
+    every = [name for part in parts for name in part.names()]
+    return text + [*(f'    (constant.{name}, codes "{name}") ∷' for name in every), "    []"]
 
 
 def conditions(parts):
-    text = [f"-- The conditions of opcodes without the EVEX mark, {NOTE}."]
-    text += [*declared(parts)]
-    text += ["use Rattle.x86_opcode.specs.declared.condition.Condition.{Condition}"]
-    text += ["use Rattle.x86_opcode.specs.declared.condition.Condition.TheVariants as on"]
+    body = []
     for part in parts:
         groups, rest = part.conditions()
-        text += ["", f"-- the condition of an opcode: {part.lower_doc}"]
-        text += [f"abbrev pub {part.low}_condition : {part.enum} → Condition"]
-        for condition, names in groups:
-            text += [f"{part.low}_condition {part.low}.{name} = on.{condition}" for name in names]
+        body += ["", f"-- the condition of an opcode: {part.lower_doc}"]
+        body += [f"abbrev pub {part.low}_condition : {part.enum} → Condition"]
+        for condition, some in groups:
+            body += [f"{part.low}_condition {part.low}.{name} = on.{condition}" for name in some]
         if rest:
-            text += [f"{part.low}_condition _ = on.{rest}"]
-    text += ["", "-- the condition under which settings permit an opcode without the EVEX mark"]
-    text += ["unfoldable pub opcode_condition : Opcode → Condition"]
-    text += ["opcode_condition Invalid = on.Always", "opcode_condition BSF = on.Always"]
-    return text + [f"opcode_condition ({part.name} o) = {part.low}_condition o" for part in parts]
+            body += [f"{part.low}_condition _ = on.{rest}"]
+    body += ["", "-- the condition under which settings permit an opcode without the EVEX mark"]
+    body += ["unfoldable pub opcode_condition : Opcode → Condition"]
+    body += ["opcode_condition Invalid = on.Always", "opcode_condition BSF = on.Always"]
+    body += [f"opcode_condition ({part.name} o) = {part.low}_condition o" for part in parts]
+    text = [f"-- The conditions of opcodes without the EVEX mark, {NOTE}.", *imports(parts, body)]
+    text += ["use Rattle.x86_opcode.specs.declared.condition.Condition.{Condition}"]
+    text += ["use Rattle.x86_opcode.specs.declared.condition.Condition.TheVariants as on"]
+    return text + body
 
 
-def vex_opcodes(parts, without_vex):
-    text = [f"-- The VEX opcodes, {NOTE}."]
-    text += ["use Rattle.std.specs.Prelude.{Bool, List, [], ◌∷◌}"]
-    text += ["use Rattle.std.specs.List.{list_any}", *declared(parts)]
-    text += ["use Rattle.x86_opcode.specs.Number.{same_opcode}", "", "-- the opcodes that an instruction with a VEX prefix has"]
-    text += ["unfoldable pub vex_opcodes : List Opcode", "vex_opcodes ="]
+def vex_opcodes(parts):
+    body = ["", "-- the opcodes that an instruction with a VEX prefix has"]
+    body += ["unfoldable pub vex_opcodes : List Opcode", "vex_opcodes ="]
     for part in parts:
         if part.name in VEX_PARTS:
-            for name in part.names():
-                if name not in without_vex:
-                    text += [f"    {part.name} {part.low}.{name} ∷"]
-    text += ["    []", "", "-- whether an opcode is one of these"]
-    text += ["unfoldable pub is_vex : Opcode → Bool"]
-    return text + ["is_vex o = list_any (same_opcode o) vex_opcodes"]
+            body += [f"    {part.name} {part.low}.{name} ∷" for name in part.names()]
+    body += ["    []", "", "-- whether an opcode is one of these"]
+    body += ["unfoldable pub is_vex : Opcode → Bool", "is_vex o = list_any (same_opcode o) vex_opcodes"]
+    text = [f"-- The VEX opcodes, {NOTE}.", "pub mod Parts", "pub mod Laws"]
+    text += ["use Rattle.std.specs.Prelude.{Bool, List, [], ◌∷◌}", "use Rattle.std.specs.List.{list_any}"]
+    text += [*imports(parts, body), "use Rattle.x86_opcode.specs.Number.{same_opcode}"]
+    return text + body
 
 
 def by_cases(part, lemma, statement, *head, pub=""):
@@ -226,69 +310,75 @@ def by_cases(part, lemma, statement, *head, pub=""):
 
 
 def listed(parts):
-    text = [f"-- Each opcode stands in the list of all at its number, {NOTE}."]
-    text += ["use Rattle.std.proofs.Common.{◌≡◌, ◌+◌, Some, slice_get, refl}", *declared(parts)]
-    text += ["use Rattle.x86_opcode.specs.declared.list.TheConstants.{ALL}"]
-    numbers = ", ".join(f"{part.low}_number" for part in parts)
-    text += [f"use Rattle.x86_opcode.specs.Number.{{opcode_number, {numbers}}}"]
+    body = []
     for part in parts:
         found = f"slice_get ALL ({part.first} + {part.low}_number o) ≡ Some ({part.name} o)"
-        text += by_cases(part, f"{part.low}-listed", found)
-    text += ["", "pub listed : (o : Opcode) → slice_get ALL (opcode_number o) ≡ Some o"]
-    text += ["unfolding opcode_number", "listed Invalid = refl", "listed BSF = refl"]
-    return text + [f"listed ({part.name} o) = {part.low}-listed o" for part in parts]
+        body += by_cases(part, f"{part.low}-listed", found)
+    body += ["", "pub listed : (o : Opcode) → slice_get ALL (opcode_number o) ≡ Some o"]
+    body += ["unfolding opcode_number", "listed Invalid = refl", "listed BSF = refl"]
+    body += [f"listed ({part.name} o) = {part.low}-listed o" for part in parts]
+    text = [f"-- Each opcode stands in the list of all at its number, {NOTE}."]
+    text += ["use Rattle.std.proofs.Common.{◌≡◌, ◌+◌, Some, slice_get, refl}", *imports(parts, body)]
+    text += ["use Rattle.x86_opcode.specs.declared.list.TheConstants.{ALL}"]
+    number = ", ".join(f"{part.low}_number" for part in parts)
+    return text + [f"use Rattle.x86_opcode.specs.Number.{{opcode_number, {number}}}"] + body
 
 
 def tags(parts):
+    body = []
+    for part in parts:
+        equal = f"tag_of the_{part.low}.the_type o ≡ {part.low}_number o"
+        body += by_cases(part, f"{part.low}_tag", equal, pub="pub ")
+    body += ["", "pub ruleset tags = (" + ", ".join(f"{part.low}_tag" for part in parts) + ")"]
     text = [f"-- A variant's place in its enum is its number there, {NOTE}."]
     text += ["use Rattle.std.proofs.Common.{◌≡◌, refl}", "use denote.Enum.Declared.{tag_of}"]
     for part in parts:
         text += [f"use Rattle.x86_opcode.specs.contracts.{part.enum} as the_{part.low}"]
-    text += declared(parts)
-    numbers = ", ".join(f"{part.low}_number" for part in parts)
-    text += [f"use Rattle.x86_opcode.specs.Number.{{{numbers}}}"]
-    for part in parts:
-        equal = f"tag_of the_{part.low}.the_type o ≡ {part.low}_number o"
-        text += by_cases(part, f"{part.low}_tag", equal, pub="pub ")
-    return text + ["", "pub ruleset tags = (" + ", ".join(f"{part.low}_tag" for part in parts) + ")"]
+    number = ", ".join(f"{part.low}_number" for part in parts)
+    text += [*imports(parts, body), f"use Rattle.x86_opcode.specs.Number.{{{number}}}"]
+    return text + body
 
 
-def vex(parts, without_vex):
-    text = [f"-- Which opcodes are VEX opcodes, {NOTE}."]
-    text += ["use Rattle.std.proofs.Common.{◌≡◌, Bool, true, false, refl}", *declared(parts)]
-    text += ["use Rattle.x86_opcode.specs.Number.{opcode_number, same_opcode}"]
-    text += ["use Rattle.x86_opcode.specs.Vex.{is_vex, vex_opcodes}"]
-    text += ["", "-- whether an opcode is one of the VEX opcodes, by its part"]
-    text += ["abbrev pub vex_part : Opcode → Bool"]
-    for part in parts:
-        if part.name in VEX_PARTS:
-            for name in part.names():
-                if name in without_vex:
-                    text += [f"vex_part ({part.name} {part.low}.{name}) = false"]
-            text += [f"vex_part ({part.name} _) = true"]
-    text += ["vex_part _ = false"]
+def vex_parts(parts):
+    body = ["", "-- whether an opcode is one of the VEX opcodes, by its part"]
+    body += ["abbrev pub vex_part : Opcode → Bool"]
+    body += [f"vex_part ({part.name} _) = true" for part in parts if part.name in VEX_PARTS]
+    body += ["vex_part _ = false"]
     unfolding = "unfolding is_vex vex_opcodes same_opcode opcode_number"
     for part in parts:
         equal = f"is_vex ({part.name} o) ≡ vex_part ({part.name} o)"
-        text += by_cases(part, f"{part.low}-is_vex", equal, unfolding)
-    text += ["", "pub is_vex-vex_part : (o : Opcode) → is_vex o ≡ vex_part o", unfolding]
-    text += ["is_vex-vex_part Invalid = refl", "is_vex-vex_part BSF = refl"]
-    return text + [f"is_vex-vex_part ({part.name} o) = {part.low}-is_vex o" for part in parts]
+        body += by_cases(part, f"{part.low}-is_vex", equal, unfolding)
+    body += ["", "pub is_vex-vex_part : (o : Opcode) → is_vex o ≡ vex_part o", unfolding]
+    body += ["is_vex-vex_part Invalid = refl", "is_vex-vex_part BSF = refl"]
+    body += [f"is_vex-vex_part ({part.name} o) = {part.low}-is_vex o" for part in parts]
+    text = [f"-- Which opcodes are VEX opcodes, {NOTE}."]
+    text += ["use Rattle.std.proofs.Common.{◌≡◌, Bool, true, false, refl}", *imports(parts, body)]
+    text += ["use Rattle.x86_opcode.specs.Number.{opcode_number, same_opcode}"]
+    text += ["use Rattle.x86_opcode.specs.Vex.{is_vex, vex_opcodes}"]
+    return text + body
 
 
 def main():
-    parts, without_vex, count = read(HERE / "opcodes.txt")
-    write("src", "lib.rt", enums(parts))
-    write("src", "list.rt", listing(parts, count))
-    for part in parts:
-        write("src", f"{part.low}.rt", part_file(part))
-    write("specs", "Number.antt", numbers(parts))
-    write("specs", "Name.antt", names(parts))
-    write("specs", "Condition.antt", conditions(parts))
-    write("specs", "Vex.antt", vex_opcodes(parts, without_vex))
-    write("proofs", "Listed.antt", listed(parts))
-    write("proofs", "Tags.antt", tags(parts))
-    write("proofs", "Vex.antt", vex(parts, without_vex))
+    folder = Path(sys.argv[1]) if len(sys.argv) > 1 else CRATE
+    parts, count = read(HERE / "opcodes.txt")
+    files = {
+        "src/lib.rt": enums(parts),
+        "src/list.rt": listing(parts, count),
+        "src/slots.rt": slot_file(parts),
+        "specs/Number.antt": numbers(parts),
+        "specs/Number/Listed.antt": listed(parts),
+        "specs/Name.antt": names(parts),
+        "specs/Constants.antt": constants(parts),
+        "specs/Condition.antt": conditions(parts),
+        "specs/Vex.antt": vex_opcodes(parts),
+        "specs/Vex/Parts.antt": vex_parts(parts),
+        "proofs/Tags.antt": tags(parts),
+    }
+    files |= {f"src/{part.low}.rt": part_file(part) for part in parts}
+    for name, lines in files.items():
+        path = folder / name
+        path.parent.mkdir(parents=True, exist_ok=True)
+        path.write_text("\n".join(lines) + "\n")
 
 
 if __name__ == "__main__":

@@ -3,7 +3,7 @@ use Rattle.std.specs.Prelude.{◌≡◌, refl, true, false, not, Bool, ℕ, List
 use Rattle.std.proofs.Common.{ap, ◌∙◌, subst, sym}
 use Rattle.x86_opcode.specs.declared.Opcode.{Opcode}
 use Rattle.x86_opcode.specs.Vex.{is_vex}
-use Rattle.x86_opcode.proofs.Vex.{vex_part, is_vex-vex_part}
+use Rattle.x86_opcode.specs.Vex.Parts.{vex_part, is_vex-vex_part}
 use Rattle.x86_settings.specs.Bits.{is_set}
 use Rattle.x86_settings.specs.Sets.{all_set}
 use Rattle.x86_permit.specs.Permission.{permits}

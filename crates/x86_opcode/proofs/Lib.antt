@@ -1,5 +1,1 @@
-pub mod Listed
 pub mod Tags
-pub mod Numbers
-pub mod Vex
-pub mod VexOpcodes

@@ -1,5 +1,7 @@
 pub mod Number
 pub mod Name
+pub mod Slots
+pub mod Constants
 pub mod Condition
 pub mod Mark
 pub mod Vex

@@ -1,4 +1,6 @@
 -- The VEX opcodes, written by tools/opcodes.py.
+pub mod Parts
+pub mod Laws
 use Rattle.std.specs.Prelude.{Bool, List, [], ◌∷◌}
 use Rattle.std.specs.List.{list_any}
 use Rattle.x86_opcode.specs.declared.Opcode.{Opcode}
@@ -319,6 +321,8 @@ vex_opcodes =
     Fused fused.VFMADD132SD ∷
     Fused fused.VFMADD213PS ∷
     Fused fused.VFMADD213PD ∷
+    Fused fused.VFMADD213SS ∷
+    Fused fused.VFMADD213SD ∷
     Fused fused.VFMADD231PS ∷
     Fused fused.VFMADD231PD ∷
     Fused fused.VFMADD231SS ∷
@@ -335,6 +339,8 @@ vex_opcodes =
     Fused fused.VFMSUB132SD ∷
     Fused fused.VFMSUB213PS ∷
     Fused fused.VFMSUB213PD ∷
+    Fused fused.VFMSUB213SS ∷
+    Fused fused.VFMSUB213SD ∷
     Fused fused.VFMSUB231PS ∷
     Fused fused.VFMSUB231PD ∷
     Fused fused.VFMSUB231SS ∷

@@ -3,9 +3,9 @@
 ghost use Rattle.std.specs.Prelude.{◌≡◌, ◌↔◌, ◌<◌, IsTrue, IfSome, Contains};
 ghost use Rattle.x86_opcode.specs.Condition.{opcode_condition};
 ghost use Rattle.x86_opcode.specs.Mark.{marked_bit};
-ghost use Rattle.x86_opcode.specs.Vex.{vex_opcodes};
+ghost use Rattle.x86_opcode.specs.Vex.{is_vex, vex_opcodes};
 
-use crate::{FusedOpcode, MarkedOpcode, Opcode};
+use crate::{MarkedOpcode, Opcode};
 
 // The settings bits that some opcodes need beside the common ones with the EVEX mark.
 const AVX512_4FMAPS: u8 = 10;
@@ -129,17 +129,11 @@ impl Opcode {
 
     /// Whether an instruction with a VEX prefix can have the opcode.
     pub fn is_vex(self) -> bool
-        ensures { IsTrue result ↔ Contains vex_opcodes self }
+        ensures listed { IsTrue result ↔ Contains vex_opcodes self }
+        ensures test { result ≡ is_vex self }
     {
         match self {
-            Opcode::Integer(_) | Opcode::Float(_) => true,
-            Opcode::Fused(
-                FusedOpcode::VFMADD213SS
-                | FusedOpcode::VFMADD213SD
-                | FusedOpcode::VFMSUB213SS
-                | FusedOpcode::VFMSUB213SD,
-            ) => false,
-            Opcode::Fused(_) => true,
+            Opcode::Integer(_) | Opcode::Float(_) | Opcode::Fused(_) => true,
             Opcode::Invalid | Opcode::BSF | Opcode::Legacy(_) | Opcode::Marked(_) => false,
         }
     }

@@ -1,23 +1,22 @@
-//! The names of x86 opcodes that the decoder and its settings speak of.
+//! The names of x86 opcodes that the decoder and its settings speak of: the types, written by tools/opcodes.py.
 #![tactic(auto)]
-
-ghost use Rattle.std.specs.Prelude.{◌≡◌, ◌↔◌, ◌<◌, ℕ, Some, IsTrue, length, slice_get};
-ghost use Rattle.x86_opcode.specs.Name.{opcode_name};
-ghost use Rattle.x86_opcode.specs.Number.{opcode_number};
 
 mod condition;
 mod float;
 mod fused;
 mod integer;
+mod laws;
 mod legacy;
 mod list;
 mod marked;
+mod name;
+mod number;
+mod slots;
 #[cfg(test)]
 mod tests;
 
 pub use condition::Condition;
-use list::{ALL, FIRST_FLOAT, FIRST_FUSED, FIRST_INTEGER, FIRST_LEGACY, FIRST_MARKED};
-use std::fmt;
+pub use laws::constants_have_their_names;
 
 /// An opcode: an enum of parts by subject, with one constant for each name, as `Opcode::VADDPS`.
 #[derive(Clone, Copy, PartialEq, Eq, Default)]
@@ -38,79 +37,6 @@ pub enum Opcode {
     /// Instructions that have only an EVEX prefix.
     Marked(MarkedOpcode),
 }
-
-impl Opcode {
-    /// The opcode's name, spelled as its constant.
-    #[tactic(auto, unfolding(crate::specs::Name::opcode_name))]
-    pub fn name(&self) -> &'static str
-        ensures { result.now ≡ opcode_name self.now }
-    {
-        match self {
-            Opcode::Invalid => "Invalid",
-            Opcode::BSF => "BSF",
-            Opcode::Legacy(part) => part.name(),
-            Opcode::Integer(part) => part.name(),
-            Opcode::Float(part) => part.name(),
-            Opcode::Fused(part) => part.name(),
-            Opcode::Marked(part) => part.name(),
-        }
-    }
-
-    /// The opcode's place among all opcodes, 0 to 550.
-    #[tactic(auto, unfolding(crate::specs::Number::opcode_number), using(crate::proofs::Tags::tags))]
-    pub fn number(self) -> u16
-        ensures place { result ≡ opcode_number self }
-        ensures below { result < 551 }
-        ensures distinct { (other : Opcode) → opcode_number other ≡ result → other ≡ self }
-    {
-        match self {
-            Opcode::Invalid => 0,
-            Opcode::BSF => 1,
-            Opcode::Legacy(part) => FIRST_LEGACY + part as u16,
-            Opcode::Integer(part) => FIRST_INTEGER + part as u16,
-            Opcode::Float(part) => FIRST_FLOAT + part as u16,
-            Opcode::Fused(part) => FIRST_FUSED + part as u16,
-            Opcode::Marked(part) => FIRST_MARKED + part as u16,
-        }
-    }
-
-    /// Whether the two opcodes are one.
-    #[tactic(auto, using(crate::proofs::Numbers::opcode_number_injective))]
-    pub fn is(self, other: Opcode) -> bool
-        ensures { IsTrue result ↔ (self ≡ other) }
-    {
-        self.number() == other.number()
-    }
-
-    /// All opcodes, each once, in the order of their numbers.
-    pub fn all() -> &'static [Opcode]
-        ensures each { (o : Opcode) → slice_get result.now (opcode_number o) ≡ Some o }
-        ensures once { (i : ℕ) (o : Opcode) → slice_get result.now i ≡ Some o → i ≡ opcode_number o }
-        ensures count { length result.now ≡ 551 }
-    {
-        &ALL
-    }
-}
-
-impl fmt::Display for Opcode {
-    ghost output = { λ opcode. Some (opcode_name opcode) };
-
-    ghost styled_output = { λ opcode _. Some (opcode_name opcode) };
-
-    fn fmt<W: fmt::Write>(&self, f: &mut fmt::Formatter<W>) -> fmt::Result {
-        f.write_str(self.name())
-    }
-}
-
-impl fmt::Debug for Opcode {
-    ghost debug_output = { λ opcode. Some (opcode_name opcode) };
-
-    fn fmt<W: fmt::Write>(&self, f: &mut fmt::Formatter<W>) -> fmt::Result {
-        fmt::Display::fmt(self, f)
-    }
-}
-
-// What follows is written by tools/opcodes.py.
 
 /// Instructions that have no VEX or EVEX prefix.
 #[derive(Clone, Copy, PartialEq, Eq)]

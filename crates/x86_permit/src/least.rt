@@ -1,7 +1,7 @@
 //! The least settings of an instruction in VEX form.
 
-ghost use Rattle.std.specs.Prelude.{◌≡◌, ◌↔◌, false, IsSome, IfSome, Contains};
-ghost use Rattle.x86_opcode.specs.Vex.{vex_opcodes};
+ghost use Rattle.std.specs.Prelude.{◌≡◌, ◌↔◌, false, IsSome, IfSome, IsTrue};
+ghost use Rattle.x86_opcode.specs.Vex.{is_vex};
 ghost use Rattle.x86_settings.specs.Sets.{exactly};
 ghost use Rattle.x86_permit.specs.LeastSettings.{least};
 
@@ -40,7 +40,7 @@ fn least(opcode: Opcode) -> InstDecoder
 /// The least settings that permit an instruction in VEX form: the smallest set of bits that does. `None` exactly where
 /// the instruction has the EVEX mark or an opcode that no instruction in VEX form has.
 pub fn least_settings(inst: &Instruction) -> Option<InstDecoder>
-    ensures there { IsSome result ↔ ((inst.now.meaning.evex ≡ false) × Contains vex_opcodes inst.now.meaning.opcode) }
+    ensures there { IsSome result ↔ ((inst.now.meaning.evex ≡ false) × IsTrue (is_vex inst.now.meaning.opcode)) }
     ensures value { IfSome result (λ settings. settings ≡ exactly (least inst.now.meaning.opcode)) }
 {
     if inst.is_evex() || !inst.opcode().is_vex() {

@@ -37,7 +37,7 @@ impl InstDecoder {
         self.with_bit(2)
     }
 
-    /// ABM: LZCNT and POPCNT as AMD has them.
+    /// ABM, which LZCNT needs beside `lzcnt` where `amd_quirks` is set. POPCNT doesn't read it.
     pub fn abm(&self) -> bool
         ensures { result ≡ is_set self.now abm }
     {
@@ -142,7 +142,7 @@ impl InstDecoder {
         self.with_bit(65)
     }
 
-    /// MONITORX: MONITORX and MWAITX.
+    /// MONITORX. It decides nothing: MONITORX and MWAITX are permitted by `amd_quirks`.
     pub fn monitorx(&self) -> bool
         ensures { result ≡ is_set self.now monitorx }
     {
@@ -157,7 +157,7 @@ impl InstDecoder {
         self.with_bit(71)
     }
 
-    /// CLZERO. Shares its bit with `wbnoinvd`.
+    /// CLZERO. It decides nothing: the instruction is permitted by `amd_quirks`. Shares its bit with `wbnoinvd`.
     pub fn clzero(&self) -> bool
         ensures { result ≡ is_set self.now clzero }
     {

@@ -22,7 +22,7 @@ impl InstDecoder {
         self.with_bit(37)
     }
 
-    /// MONITOR: MONITOR and MWAIT.
+    /// MONITOR. It decides nothing: MONITOR and MWAIT are permitted by `sse3`.
     pub fn monitor(&self) -> bool
         ensures { result ≡ is_set self.now monitor }
     {

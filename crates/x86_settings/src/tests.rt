@@ -1,5 +1,6 @@
 use super::*;
 use std::process::Abort;
+use std::test::Fail;
 
 /// A setting's name and bit, the settings after its setter alone, and what its getter answers then.
 type Row = (&'static str, u8, InstDecoder, bool);
@@ -610,4 +611,14 @@ fn system() -> [Row; 18] {
             none.with_hreset().hreset(),
         ),
     ]
+}
+
+#[test]
+fn clones_are_equal(rt: HostRuntime) -> Result<(), Fail> {
+    for bit in 0..128 {
+        let settings = InstDecoder::minimal().with_bit(bit);
+        assert!(rt; settings.clone()? == settings, "{bit}");
+        assert!(rt; settings.clone()? != InstDecoder::minimal(), "{bit}");
+    }
+    Ok(())
 }

@@ -9,7 +9,7 @@ use Rattle.x86_opcode.specs.declared.FloatOpcode.{FloatOpcode}
 use Rattle.x86_opcode.specs.declared.FloatOpcode.TheVariants as float
 use Rattle.x86_opcode.specs.Condition.{opcode_condition}
 use Rattle.x86_opcode.specs.Vex.{is_vex}
-use Rattle.x86_opcode.proofs.Vex.{is_vex-vex_part}
+use Rattle.x86_opcode.specs.Vex.Parts.{is_vex-vex_part}
 use Rattle.x86_settings.specs.Bits.{is_set}
 use Rattle.x86_settings.specs.Sets.{all_set}
 use Rattle.x86_permit.specs.Permission.{permits}

@@ -4,7 +4,7 @@ use Rattle.x86_opcode.specs.declared.Opcode.{Opcode}
 use Rattle.x86_opcode.specs.declared.Opcode.TheVariants.{Legacy}
 use Rattle.x86_opcode.specs.declared.LegacyOpcode.TheVariants.{TZCNT}
 use Rattle.x86_opcode.specs.Vex.{is_vex}
-use Rattle.x86_opcode.proofs.Vex.{is_vex-vex_part}
+use Rattle.x86_opcode.specs.Vex.Parts.{is_vex-vex_part}
 use Rattle.x86_permit.specs.Permission.{revised}
 
 -- a VEX opcode stays what it is

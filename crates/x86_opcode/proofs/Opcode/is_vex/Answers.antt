@@ -1,15 +1,18 @@
-use Rattle.std.proofs.Common.{true, false, rules}
-use Rattle.x86_opcode.proofs.VexOpcodes.{vex_part_tells}
+use Rattle.std.proofs.Common.{◌≡◌, ◌∙◌, true, false, sym, rules}
+use Rattle.x86_opcode.specs.Vex.Laws.{vex_part_tells}
+use Rattle.x86_opcode.specs.Vex.Parts.{vex_part, is_vex-vex_part}
 use Rattle.x86_opcode.proofs.Opcode.is_vex.Goals as goal
 
-pub returns-in-Integer : goal.returns-in-Integer
-returns-in-Integer c = vex_part_tells c.args.self true (search rules)
+pub returns-in-Integer-clause-listed : goal.returns-in-Integer-clause-listed
+returns-in-Integer-clause-listed c = vex_part_tells c.args.self true (search rules)
 
-pub returns-in-Fused-VFMADD213SS : goal.returns-in-Fused-VFMADD213SS
-returns-in-Fused-VFMADD213SS c = vex_part_tells c.args.self false (search rules)
+pub returns-in-Integer-clause-test : goal.returns-in-Integer-clause-test
+returns-in-Integer-clause-test c =
+    let part : true ≡ vex_part c.args.self = search rules in part ∙ sym (is_vex-vex_part c.args.self)
 
-pub returns-in-Fused : goal.returns-in-Fused
-returns-in-Fused c = vex_part_tells c.args.self true (search rules)
+pub returns-in-Invalid-clause-listed : goal.returns-in-Invalid-clause-listed
+returns-in-Invalid-clause-listed c = vex_part_tells c.args.self false (search rules)
 
-pub returns-in-Invalid : goal.returns-in-Invalid
-returns-in-Invalid c = vex_part_tells c.args.self false (search rules)
+pub returns-in-Invalid-clause-test : goal.returns-in-Invalid-clause-test
+returns-in-Invalid-clause-test c =
+    let part : false ≡ vex_part c.args.self = search rules in part ∙ sym (is_vex-vex_part c.args.self)

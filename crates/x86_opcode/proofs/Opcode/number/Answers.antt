@@ -3,7 +3,7 @@ use Rattle.std.proofs.Common.{◌≡◌, ℕ, ◌+◌, ◌∙◌, ap}
 use Rattle.x86_opcode.specs.declared.Opcode.{Opcode}
 use Rattle.x86_opcode.specs.declared.list.TheConstants.{FIRST_LEGACY, FIRST_INTEGER, FIRST_FLOAT, FIRST_FUSED, FIRST_MARKED}
 use Rattle.x86_opcode.specs.Number.{opcode_number}
-use Rattle.x86_opcode.proofs.Numbers.{opcode_number_injective}
+use Rattle.x86_opcode.specs.Number.Laws.{opcode_number_injective}
 use Rattle.x86_opcode.proofs.Tags.{legacy_tag, integer_tag, float_tag, fused_tag, marked_tag}
 use Rattle.x86_opcode.proofs.Opcode.number.Goals as goal
 

@@ -19,10 +19,6 @@ use Rattle.x86_opcode.specs.Vex.{is_vex, vex_opcodes}
 abbrev pub vex_part : Opcode → Bool
 vex_part (Integer _) = true
 vex_part (Float _) = true
-vex_part (Fused fused.VFMADD213SS) = false
-vex_part (Fused fused.VFMADD213SD) = false
-vex_part (Fused fused.VFMSUB213SS) = false
-vex_part (Fused fused.VFMSUB213SD) = false
 vex_part (Fused _) = true
 vex_part _ = false
 

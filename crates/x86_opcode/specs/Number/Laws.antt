@@ -4,7 +4,7 @@ use Rattle.std.proofs.lemmas.Bool.{eqb-true, eq-eqb, and_parts}
 use Rattle.x86_opcode.specs.declared.Opcode.{Opcode}
 use Rattle.x86_opcode.specs.declared.list.TheConstants.{ALL}
 use Rattle.x86_opcode.specs.Number.{opcode_number, same_opcode}
-use Rattle.x86_opcode.proofs.Listed.{listed}
+use Rattle.x86_opcode.specs.Number.Listed.{listed}
 
 -- opcodes of one number are one
 pub opcode_number_injective : (a b : Opcode) → opcode_number a ≡ opcode_number b → a ≡ b
