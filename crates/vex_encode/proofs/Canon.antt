@@ -85,3 +85,11 @@ canon_least m bytes spells =
     let among = among-filter_map (λ row. standard row m) spells.row (bytes_of spells.row (candidate spells.row m)) rows spells.is_row there in
     let first = first_shortest-there (bytes_of spells.row (candidate spells.row m)) (all_standard m rows) among in
     (first.0, first.1, omega (arith, first.2, standard_least spells.row m bytes spells.is_row spells.by))
+
+-- where there are none, nothing spells the meaning
+pub none_spells : (m : Meaning) → None ≡ canon m → (bytes : List ℕ) → Spells bytes m → ⊥
+none_spells m none bytes spells = let least = canon_least m bytes spells in cc (least.1)
+
+-- and where nothing does, there are none
+pub never_none : (m : Meaning) (c : List ℕ) → Some c ≡ canon m → ((bytes : List ℕ) → Spells bytes m → ⊥) → ⊥
+never_none m c e never = never c (canon_spells m c (sym e))

@@ -294,7 +294,7 @@ module _ (row : Row) (m : Meaning) (is_row : IsRow row) where
     by (Some bytes) e h = let by = standard_spells row m is_row bytes e in subst (λ m. CanGive row m) (sym by.means) (given_fits by.parts by.fits)
 
   -- what fits the row is meant by the parts that are put together for it
-  fits_meant : CanGive row m → meant row (candidate row m) ≡ m
+  pub fits_meant : CanGive row m → meant row (candidate row m) ≡ m
   unfolding candidate gives
   fits_meant fits =
       let one = once row in

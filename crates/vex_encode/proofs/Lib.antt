@@ -4,11 +4,12 @@ pub mod Standard
 pub mod Canon
 pub mod CanonLaws
 pub mod Conditions
-pub mod Direct
 pub mod FirstSlot
-pub mod Assembled
 pub mod Search
-pub mod Made
+pub mod Entries
+pub mod Addresses
+pub mod Asked
+pub mod Fitting
+pub mod Written
 pub mod Recoding
-pub mod Chosen
 pub mod Sweeping

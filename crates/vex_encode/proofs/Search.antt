@@ -1,29 +1,25 @@
 -- The search for the shortest standard bytes, row by row and entry by entry.
-use Rattle.std.specs.Prelude.{◌≡◌, refl, ℕ, ◌+◌, ◌<◌, Bool, true, false, not, ◌||◌, nat_le, List, [], ◌∷◌, ◌++◌, map, filter, flat_map, filter_map, length, take, slice_get, Option, Some, None, cond, if◌then◌else◌}
-use Rattle.std.specs.List.{list_all, list_any, cons_option}
+use Rattle.std.specs.Prelude.{◌≡◌, refl, ℕ, ◌+◌, ◌<◌, ◌≤◌, Bool, true, false, nat_le, List, [], ◌∷◌, ◌++◌, filter, flat_map, filter_map, length, take, ◌==◌, Option, Some, None, is_some, cond, if◌then◌else◌}
+use Rattle.std.specs.List.{cons_option}
 use Rattle.std.proofs.Common.{zero, suc, get_or, inl, inr, arith, ap, ap₂, sym, ◌∙◌}
 use Rattle.std.proofs.lemmas.Bool.Decides.{nat_tests}
 use Rattle.std.proofs.lemmas.Grind.{flat_map-append}
 use Rattle.std.proofs.lemmas.List.{take_more}
-use Rattle.std.proofs.lemmas.Option.{get_or_from_slice_get, same_Some}
-use Rattle.x86_operand.specs.Kind.{WithoutModRM, InRegister, InMemory}
+use Rattle.std.proofs.lemmas.Bool.{eq-eqb}
+use Rattle.x86_opcode.specs.Number.{opcode_number, same_opcode}
 use Rattle.x86_operand.specs.Meaning.{Meaning}
+use Rattle.x86_operand.specs.Same.{same_meaning}
+use Rattle.x86_operand.specs.Same.Laws.{same_meaning_equal}
 use Rattle.vex_rows.specs.declared.entry.Entry.{Entry}
-use Rattle.vex_rows.specs.declared.steps.Check.{Check}
-use Rattle.vex_rows.specs.declared.steps.Check.TheVariants.{V0, L0, Reg, Mem, Group, VifMem}
-use Rattle.vex_rows.specs.FormRows.{form_row}
-use Rattle.vex_rows.specs.Steps.{steps}
 use Rattle.vex_rows.specs.Table.{table}
-use Rattle.vex_rows.specs.Row.{Row, Among, rows, exists, choices, choices_of_w, choices_of_l, row_at, has_groups, permits_choice, is_register}
-use Rattle.vex_rows.specs.Tests.{is_register_check}
-use Rattle.vex_rows.specs.Row.Lists.{both-parts, from-list_all}
-use Rattle.vex_rows.specs.Row.Laws.{checks_of}
-use Rattle.vex_forms.specs.Layout.{row_for}
-use Rattle.vex_decode.proofs.Form.{addressed_form}
-use Rattle.vex_encode.specs.Standard.{standard}
+use Rattle.vex_rows.specs.Row.{Row, Among, rows, exists, opcode_of, choices}
+use Rattle.vex_rows.specs.Entries.{rows_of, has_opcode, entries_with}
+use Rattle.vex_rows.specs.Entries.Laws.{no_row}
+use Rattle.vex_forms.specs.Gives.{gives}
+use Rattle.vex_decode.specs.Spelling.{bytes_of, meant}
+use Rattle.vex_encode.specs.Standard.{candidate, standard}
 use Rattle.vex_encode.specs.Canon.{shorter, first_shortest, all_standard, canon}
-use Rattle.vex_encode.specs.Encode.{standard_of, shorter_of, best}
-use Rattle.vex_encode.proofs.Direct.{direct}
+use Rattle.vex_encode.specs.Encode.{standard_of, shorter_of, first_of, first, best}
 
 le_chain : (x a b : ℕ) → nat_le x a ≡ true → nat_le a b ≡ true → nat_le x b ≡ true
 le_chain x a b h k = grind (arith, nat_tests)
@@ -77,110 +73,133 @@ best-one m row = by (exists row) (standard row m) refl where
   by true None e = rw e refl
   by true (Some bytes) e = rw e refl
 
--- all of two lists one after the other
-list_all-front : {A : Type 0} (p : A → Bool) (xs ys : List A) → list_all p (xs ++ ys) ≡ true → (list_all p xs ≡ true) × (list_all p ys ≡ true)
-list_all-front p [] ys h = (refl, h)
-list_all-front p (x ∷ xs) ys h =
-    let parts = both-parts (p x) (list_all p (xs ++ ys)) h in
-    let later = list_all-front p xs ys parts.1 in
-    (rw (parts.0) later.0, later.1)
-
--- a check of registers that a row's choice passes
-register_only : (row : Row) (cs : List Check) → list_any is_register_check cs ≡ true → list_all (permits_choice row) cs ≡ true → is_register row.kind ≡ true
-register_only row [] any all = cc
-register_only row (Reg ∷ cs) any all = (both-parts (is_register row.kind) _ all).0
-register_only row (V0 ∷ cs) any all = register_only row cs any (both-parts (permits_choice row V0) _ all).1
-register_only row (L0 ∷ cs) any all = register_only row cs any (both-parts (permits_choice row L0) _ all).1
-register_only row (Mem ∷ cs) any all = register_only row cs any (both-parts (permits_choice row Mem) _ all).1
-register_only row (Group ∷ cs) any all = register_only row cs any (both-parts (permits_choice row Group) _ all).1
-register_only row (VifMem ∷ cs) any all = register_only row cs any (both-parts (permits_choice row VifMem) _ all).1
-
-register_if : (b c : Bool) → (b || c) ≡ true → b ≡ false → c ≡ true
-register_if true c h e = cc
-register_if false c h e = h
-
--- a row in memory of a form that reads no address doesn't exist
-no_memory_row : (entry : Entry) (w : Bool) (l : ℕ) (group : Option ℕ) → (steps entry.form).address ≡ false → (steps entry.form).modrm ≡ true → exists (row_at entry w l InMemory group) ≡ false
-unfolding exists
-no_memory_row entry w l group none modrm = by (exists (row_at entry w l InMemory group)) refl where
-  by : (b : Bool) → exists (row_at entry w l InMemory group) ≡ b → exists (row_at entry w l InMemory group) ≡ false
-  by false e = e
-  by true e =
-      let row : Row = row_at entry w l InMemory group in
-      let checks = (both-parts _ (list_all (permits_choice row) (checks_of entry)) e).1 in
-      let front = (list_all-front (permits_choice row) ((steps entry.form).before_modrm ++ (steps entry.form).after_modrm) (steps entry.form).after_address checks).0 in
-      let second = (list_all-front (permits_choice row) (steps entry.form).before_modrm (steps entry.form).after_modrm front).1 in
-      let any = register_if (steps entry.form).address (list_any is_register_check (steps entry.form).after_modrm) (addressed_form entry modrm) none in
-      cc (register_only row (steps entry.form).after_modrm any second)
-
-shorter_none : (o : Option (List ℕ)) → shorter_of o None ≡ o
+pub shorter_none : (o : Option (List ℕ)) → shorter_of o None ≡ o
 shorter_none None = refl
 shorter_none (Some bytes) = refl
 
-standard_none : (row : Row) (m : Meaning) → exists row ≡ false → standard_of row m ≡ None
-standard_none row m h = rw h refl
+-- ---- the first row that can give a meaning
 
-best_of_kinds : (m : Meaning) (modrm has : Bool) (entry : Entry) (w : Bool) (l : ℕ) (gs : List (Option ℕ)) → has ≡ false →
-    (modrm ≡ true → exists (row_at entry w l InMemory None) ≡ false) →
-    best m (flat_map (λ kind. map (row_at entry w l kind) (if has then gs else None ∷ [])) (if modrm then InRegister ∷ InMemory ∷ [] else WithoutModRM ∷ []))
-    ≡ standard_of (row_at entry w l (if modrm then (if false then InMemory else InRegister) else WithoutModRM) None) m
-best_of_kinds m modrm true entry w l gs h none = cc
-best_of_kinds m true false entry w l gs h none =
-    best-append m (row_at entry w l InRegister None ∷ []) (row_at entry w l InMemory None ∷ [])
-    ∙ ap₂ shorter_of (best-one m (row_at entry w l InRegister None)) (best-one m (row_at entry w l InMemory None) ∙ standard_none _ m (none refl))
-    ∙ shorter_none _
-best_of_kinds m false false entry w l gs h none = best-one m (row_at entry w l WithoutModRM None)
+first_of-assoc : (a b c : Option (List ℕ)) → first_of a (first_of b c) ≡ first_of (first_of a b) c
+first_of-assoc None b c = refl
+first_of-assoc (Some x) b c = refl
 
-pub best_of_l : (m : Meaning) (entry : Entry) (w l : Bool) → Among entry table → has_groups entry.form ≡ false →
-    best m (choices_of_l entry w (if l then 1 else 0)) ≡ standard_of (row_for entry w l false 0) m
-best_of_l m entry w l listed none =
-    best_of_kinds m (steps entry.form).modrm (has_groups entry.form) entry w (if l then 1 else 0) _ none (no_memory_row entry w (if l then 1 else 0) None (direct entry listed))
-    ∙ ap (λ g. standard_of (row_at entry w (if l then 1 else 0) (if (steps entry.form).modrm then (if false then InMemory else InRegister) else WithoutModRM) g) m) (sym (ap (λ has. if has then Some 0 else None) none))
+pub first_of-none : (a : Option (List ℕ)) → first_of a None ≡ a
+first_of-none None = refl
+first_of-none (Some x) = refl
+
+pub first-append : (m : Meaning) (xs ys : List Row) → first m (xs ++ ys) ≡ first_of (first m xs) (first m ys)
+first-append m [] ys = refl
+first-append m (x ∷ xs) ys = ap (first_of (standard_of x m)) (first-append m xs ys) ∙ first_of-assoc (standard_of x m) (first m xs) (first m ys)
+
+pub first_of_two : {A : Type 0} (m : Meaning) (f : A → List Row) (a b : A) → first m (flat_map f (a ∷ b ∷ [])) ≡ first_of (first m (f a)) (first m (f b))
+first_of_two m f a b =
+    first-append m (f a) (f b ++ [])
+    ∙ ap (first_of (first m (f a))) (first-append m (f b) [] ∙ first_of-none (first m (f b)))
+
+-- it is one of the rows
+from-first : (m : Meaning) (xs : List Row) (bytes : List ℕ) → first m xs ≡ Some bytes → (row : Row) × Among row xs × (standard_of row m ≡ Some bytes)
+from-first m [] bytes e = cc
+from-first m (x ∷ xs) bytes e = by (standard_of x m) refl e (from-first m xs bytes) where
+  by : (o : Option (List ℕ)) → standard_of x m ≡ o → first_of o (first m xs) ≡ Some bytes → (first m xs ≡ Some bytes → (row : Row) × Among row xs × (standard_of row m ≡ Some bytes)) → (row : Row) × Among row (x ∷ xs) × (standard_of row m ≡ Some bytes)
+  by None k e next = let r = next e in (r.0, inr r.1, r.2)
+  by (Some other) k e next = (x, inl refl, k ∙ e)
+
+-- there is none where no row can give the meaning
+pub first_none : (m : Meaning) (xs : List Row) → ((row : Row) → Among row xs → standard_of row m ≡ None) → first m xs ≡ None
+first_none m [] h = refl
+first_none m (x ∷ xs) h = rw (h x (inl refl)) (first_none m xs (λ row k. h row (inr k)))
+
+-- the standard bytes by a row are no longer than those by another, where both are there
+abbrev pub NoLonger : Meaning → Row → Row → Type 0
+NoLonger m row other = (a b : List ℕ) → standard_of row m ≡ Some a → standard_of other m ≡ Some b → length a ≤ length b
+
+at_most : (a b : List ℕ) → length a ≤ length b → nat_le (length a) (length b) ≡ true
+at_most a b h = grind (arith, nat_tests)
+
+first_kept : (a b : Option (List ℕ)) → ((x y : List ℕ) → a ≡ Some x → b ≡ Some y → length x ≤ length y) → shorter_of a b ≡ first_of a b
+first_kept None b h = refl
+first_kept (Some x) None h = refl
+first_kept (Some x) (Some y) h = rw (at_most x y (h x y refl refl)) refl
+
+-- where each row gives no longer bytes than those after it, the first is the shortest
+pub best-first : (m : Meaning) (xs : List Row) → ((x y : Row) → Among x xs → Among y xs → NoLonger m x y) → best m xs ≡ first m xs
+best-first m [] h = refl
+best-first m (x ∷ xs) h =
+    best-append m (x ∷ []) xs
+    ∙ ap₂ shorter_of (best-one m x) (best-first m xs (λ y z k l. h y z (inr k) (inr l)))
+    ∙ first_kept (standard_of x m) (first m xs) (λ a b e f. let from = from-first m xs b f in h x from.0 (inl refl) (inr from.1) a b e from.2)
 
 best_of_two : {A : Type 0} (m : Meaning) (f : A → List Row) (a b : A) → best m (flat_map f (a ∷ b ∷ [])) ≡ shorter_of (best m (f a)) (best m (f b))
 best_of_two m f a b =
     best-append m (f a) (f b ++ [])
     ∙ ap (shorter_of (best m (f a))) (best-append m (f b) [] ∙ shorter_none (best m (f b)))
 
--- over all choices of an entry
-pub best_of_entry : (m : Meaning) (entry : Entry) → Among entry table → has_groups entry.form ≡ false →
-    best m (choices entry) ≡ shorter_of (shorter_of (standard_of (row_for entry false false false 0) m) (standard_of (row_for entry false true false 0) m)) (shorter_of (standard_of (row_for entry true false false 0) m) (standard_of (row_for entry true true false 0) m))
-unfolding choices
-best_of_entry m entry listed none =
-    best_of_two m (choices_of_w entry) false true
-    ∙ ap₂ shorter_of
-    (best_of_two m (choices_of_l entry false) 0 1 ∙ ap₂ shorter_of (best_of_l m entry false false listed none) (best_of_l m entry false true listed none))
-    (best_of_two m (choices_of_l entry true) 0 1 ∙ ap₂ shorter_of (best_of_l m entry true false listed none) (best_of_l m entry true true listed none))
+-- the same of two lists of rows, one after the other
+pub best-first_of_two : {A : Type 0} (m : Meaning) (f : A → List Row) (a b : A)
+    → ((x y : Row) → Among x (f a) → Among y (f a) → NoLonger m x y) → ((x y : Row) → Among x (f b) → Among y (f b) → NoLonger m x y)
+    → ((x y : Row) → Among x (f a) → Among y (f b) → NoLonger m x y) → best m (flat_map f (a ∷ b ∷ [])) ≡ first_of (first m (f a)) (first m (f b))
+best-first_of_two m f a b h k l =
+    best_of_two m f a b
+    ∙ ap₂ shorter_of (best-first m (f a) h) (best-first m (f b) k)
+    ∙ first_kept (first m (f a)) (first m (f b)) (λ x y d e. let here = from-first m (f a) x d in let there = from-first m (f b) y e in l here.0 there.0 here.1 there.1 x y here.2 there.2)
+
+-- ---- all entries
 
 -- over one more entry
-pub best_more : (m : Meaning) (entries : List Entry) (i : ℕ) (entry : Entry) → i < length entries → slice_get entries i ≡ Some entry →
-    best m (flat_map choices (take (i + 1) entries)) ≡ shorter_of (best m (flat_map choices (take i entries))) (best m (choices entry))
-best_more m entries i entry within read =
-    let at : get_or entries i entry ≡ entry = get_or_from_slice_get entries i entry entry read in
-    ap (λ es. best m (flat_map choices es)) (take_more entries i entry within ∙ ap (λ e. take i entries ++ e ∷ []) at)
-    ∙ ap (best m) (flat_map-append choices (take i entries) (entry ∷ []))
-    ∙ best-append m (flat_map choices (take i entries)) (choices entry ++ [])
-    ∙ ap (shorter_of (best m (flat_map choices (take i entries)))) (best-append m (choices entry) [] ∙ shorter_none (best m (choices entry)))
+pub best_more : (m : Meaning) (entries : List Entry) (i : ℕ) (entry : Entry) → i < length entries →
+    best m (flat_map choices (take (i + 1) entries)) ≡ shorter_of (best m (flat_map choices (take i entries))) (best m (choices (get_or entries i entry)))
+best_more m entries i entry within =
+    let at : Entry = get_or entries i entry in
+    ap (λ es. best m (flat_map choices es)) (take_more entries i entry within)
+    ∙ ap (best m) (flat_map-append choices (take i entries) (get_or entries i entry ∷ []))
+    ∙ best-append m (flat_map choices (take i entries)) (choices (get_or entries i entry) ++ [])
+    ∙ ap (shorter_of (best m (flat_map choices (take i entries)))) (best-append m (choices (get_or entries i entry)) [] ∙ shorter_none (best m (choices (get_or entries i entry))))
 
--- over the whole table
-pub canon-best : (m : Meaning) → canon m ≡ best m (flat_map choices table)
-unfolding canon rows
-canon-best m = refl
+-- no string of a list of rows that give none
+none_given : (m : Meaning) (rows : List Row) → ((row : Row) → Among row rows → standard row m ≡ None) → all_standard m rows ≡ []
+none_given m [] h = refl
+none_given m (row ∷ rows) h = rw (h row (inl refl)) (none_given m rows (λ other k. h other (inr k)))
 
-all_alone : list_all (λ entry. not (has_groups entry.form)) table ≡ true
-unfolding table steps form_row has_groups
-all_alone = refl
+-- a row of another opcode gives none
+other_opcode : (m : Meaning) (row : Row) → same_opcode (opcode_of row) m.opcode ≡ false → standard row m ≡ None
+unfolding standard gives same_opcode
+other_opcode m row h = by (same_meaning (meant row (candidate row m)) m) refl where
+  by : (b : Bool) → same_meaning (meant row (candidate row m)) m ≡ b → (if b then Some (bytes_of row (candidate row m)) else None) ≡ None
+  by false e = refl
+  by true e =
+      let same : opcode_of row ≡ m.opcode = ap (λ (m : Meaning). m.opcode) (same_meaning_equal _ _ e) in
+      let yes : (opcode_number (opcode_of row) == opcode_number m.opcode) ≡ true = eq-eqb _ _ (ap opcode_number same) in
+      cc
 
-not_true : (b : Bool) → not b ≡ true → b ≡ false
-not_true true h = cc
-not_true false h = refl
+-- so does an entry no row of which gives the opcode
+entry_without : (m : Meaning) (entry : Entry) → has_opcode entry m.opcode ≡ false → best m (choices entry) ≡ None
+unfolding rows_of
+entry_without m entry h = ap first_shortest (none_given m (filter exists (choices entry)) (λ row k. other_opcode m row (no_row entry m.opcode h row k)))
 
--- no entry of the table has groups
-pub no_groups : (entry : Entry) → Among entry table → has_groups entry.form ≡ false
-no_groups entry m = not_true _ (from-list_all (λ entry. not (has_groups entry.form)) entry table all_alone m)
+-- the entries of the opcode are enough
+best_kept : (m : Meaning) (entries : List Entry) → best m (flat_map choices entries) ≡ best m (flat_map choices (filter (λ entry. has_opcode entry m.opcode) entries))
+best_kept m [] = refl
+best_kept m (entry ∷ entries) = best-append m (choices entry) (flat_map choices entries) ∙ by (has_opcode entry m.opcode) refl (best_kept m entries) where
+  by : (b : Bool) → has_opcode entry m.opcode ≡ b → best m (flat_map choices entries) ≡ best m (flat_map choices (filter (λ entry. has_opcode entry m.opcode) entries)) → shorter_of (best m (choices entry)) (best m (flat_map choices entries)) ≡ best m (flat_map choices (cond b (entry ∷ filter (λ entry. has_opcode entry m.opcode) entries) (filter (λ entry. has_opcode entry m.opcode) entries)))
+  by true h next = ap (shorter_of (best m (choices entry))) next ∙ sym (best-append m (choices entry) (flat_map choices (filter (λ entry. has_opcode entry m.opcode) entries)))
+  by false h next = ap (λ o. shorter_of o (best m (flat_map choices entries))) (entry_without m entry h) ∙ next
 
--- what is read at a place of the table stands in it
-pub among_read : {A : Type 0} (xs : List A) (i : ℕ) (x : A) → slice_get xs i ≡ Some x → Among x xs
-among_read [] i x e = cc
-among_read (y ∷ xs) zero x e = inl (same_Some x y (sym e))
-among_read (y ∷ xs) (suc i) x e = inr (among_read xs i x e)
+-- over the entries of the opcode
+pub canon-best : (m : Meaning) → canon m ≡ best m (flat_map choices (entries_with m.opcode))
+unfolding canon rows entries_with
+canon-best m = best_kept m table
+
+-- what is read at a place of a list stands in it
+pub among_at : {A : Type 0} (xs : List A) (i : ℕ) (x : A) → i < length xs → Among (get_or xs i x) xs
+among_at [] i x h = absurd (omega arith)
+among_at (y ∷ xs) zero x h = inl refl
+among_at (y ∷ xs) (suc i) x h = inr (among_at xs i x (omega arith))
+
+-- the first of two, where it is there, and where it isn't
+pub first_found : (a b : Option (List ℕ)) → is_some a ≡ true → a ≡ first_of a b
+first_found None b h = cc
+first_found (Some x) b h = refl
+
+pub first_missing : (a b : Option (List ℕ)) → is_some a ≡ false → b ≡ first_of a b
+first_missing None b h = refl
+first_missing (Some x) b h = cc

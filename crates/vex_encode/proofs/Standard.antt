@@ -82,7 +82,7 @@ group_fits : (group : Option ℕ) (g : ℕ) → FitsGroup group (reg_for group g
 group_fits None g = tt
 group_fits (Some group) g = refl
 
-kind_asked : (kind : Kind) (operand : OperandMeaning) → kind_of_target (target_of kind operand) ≡ kind
+pub kind_asked : (kind : Kind) (operand : OperandMeaning) → kind_of_target (target_of kind operand) ≡ kind
 kind_asked WithoutModRM operand = refl
 kind_asked InRegister operand = refl
 kind_asked InMemory (memory a) = refl
@@ -258,11 +258,11 @@ shorter_prefix f g C4 can fits = by (fits_two_bytes f) where
   by true = omega arith
   by false = omega arith
 
-imm_length : (has : Bool) (a b : ℕ) → length (imm_bytes has a) ≡ length (imm_bytes has b)
+pub imm_length : (has : Bool) (a b : ℕ) → length (imm_bytes has a) ≡ length (imm_bytes has b)
 imm_length true a b = refl
 imm_length false a b = refl
 
-bytes_length : (row : Row) (s : Syntax) → length (bytes_of row s) ≡ length (prefix_bytes s.form s.fields) + (1 + (length (place_bytes s.reg s.place) + length (imm_bytes (has_imm row) s.imm)))
+pub bytes_length : (row : Row) (s : Syntax) → length (bytes_of row s) ≡ length (prefix_bytes s.form s.fields) + (1 + (length (place_bytes s.reg s.place) + length (imm_bytes (has_imm row) s.imm)))
 bytes_length row s =
     let tail : List ℕ = place_bytes s.reg s.place ++ imm_bytes (has_imm row) s.imm in
     length-append (prefix_bytes s.form s.fields) (row.entry.byte ∷ tail)

@@ -1,21 +1,16 @@
 -- A sweep, instruction by instruction.
-use Rattle.std.proofs.Common.{◌≡◌, ℕ, zero, suc, ◌+◌, ◌-◌, ◌<◌, ◌≤◌, Bool, List, [], ◌∷◌, ◌++◌, length, take, drop, get_or, Some, None, Result, Ok, Err, refl, sym, ap, ◌∙◌, subst, arith, add-zero, append_assoc, take-append-drop, zero-add}
-use Rattle.std.specs.Prelude.{All, flat_map, unwrap_or}
+use Rattle.std.proofs.Common.{◌≡◌, ℕ, zero, suc, ◌+◌, ◌-◌, ◌<◌, ◌≤◌, Bool, List, [], ◌∷◌, ◌++◌, length, take, drop, Some, Ok, Err, refl, sym, ap, ◌∙◌, arith, add-zero, append_assoc, take-append-drop, zero-add}
+use Rattle.std.specs.Prelude.{All}
 use Rattle.std.proofs.lemmas.List.{append-nil, drop-drop, drop_all, length-append, length-drop, length-take-le, take_all}
 use Rattle.std.proofs.lemmas.List.Elements.{All-nil, All-push}
 use Rattle.std.proofs.lemmas.Grind.{flat_map-append}
 use Rattle.std.proofs.Math.Seq.{take-add}
 use Rattle.x86_operand.specs.declared.error.DecodeError.{DecodeError}
-use Rattle.x86_operand.specs.Meaning.{Decoded, Meaning}
-use Rattle.x86_address.specs.Bytes.{Begins, IsBytes}
-use Rattle.vex_forms.specs.FormWalk.{taken}
-use Rattle.vex_decode.specs.Spelling.{Spells, meant}
-use Rattle.vex_decode.specs.Walk.{walk}
+use Rattle.x86_operand.specs.Meaning.{Decoded}
+use Rattle.x86_address.specs.Bytes.{Begins}
 use Rattle.vex_decode.specs.Blocked.{blocked}
-use Rattle.vex_decode.specs.Laws.{ReadingIsSpelling}
-use Rattle.vex_encode.specs.Canon.{canon}
 use Rattle.vex_encode.specs.declared.sweeper.SweepEnd.TheVariants.{End, Stopped}
-use Rattle.vex_encode.specs.Sweep.{AreInPlace, EndsAfter, IsPermitted, Swept, SweptItem, decoded_by, decoded_unless, first_of_bytes, item_at, joined, onto, swept, swept_by, swept_from}
+use Rattle.vex_encode.specs.Sweep.{AreInPlace, EndsAfter, IsPermitted, Swept, SweptItem, first_of_bytes, item_at, joined, onto, swept, swept_by, swept_from}
 
 -- ---- one instruction after another
 

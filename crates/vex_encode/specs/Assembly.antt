@@ -1,37 +1,42 @@
 -- Private functions alone cite what stands here.
-use Rattle.std.specs.Prelude.{◌≡◌, ◌≢◌, ◌/◌, ◌%◌, ◌==◌, ◌&&◌, ℕ, Bool, false, unwrap_or, if◌then◌else◌}
-use Rattle.x86_operand.specs.Meaning.{Meaning}
-use Rattle.x86_address.specs.Place.{Place, NoPlace, Direct, At}
-use Rattle.x86_address.specs.Shortest.{shortest, plain}
+use Rattle.std.specs.Prelude.{◌≡◌, ℕ, ◌+◌, ◌*◌, ◌/◌, ◌%◌, ◌<◌, ◌==◌, Bool, List, [], ◌∷◌, unwrap_or, if◌then◌else◌}
+use Rattle.x86_operand.specs.declared.register.RegisterBank.{RegisterBank}
+use Rattle.x86_operand.specs.Kind.{Kind, WithoutModRM, InRegister, InMemory}
+use Rattle.x86_operand.specs.Meaning.{OperandMeaning, register, memory, Meaning}
+use Rattle.x86_address.specs.Place.{Target}
+use Rattle.x86_operand.specs.declared.register.RegisterBank.TheVariants.{Q}
 use Rattle.x86_operand.specs.declared.address.Address.{Address}
-use Rattle.vex_rows.specs.declared.entry.Entry.{Entry}
-use Rattle.vex_rows.specs.declared.key.Prefix.{Prefix}
+use Rattle.x86_address.specs.Shortest.{shortest, plain, in_banks, x_of, b_of}
+use Rattle.x86_address.specs.Spells.{BaseFits, IndexFits}
+use Rattle.vex_rows.specs.Row.{Row}
+use Rattle.vex_forms.specs.declared.operand_e.OperandE.{OperandE}
+use Rattle.vex_forms.specs.declared.operand_e.OperandE.TheVariants.{Memory}
+use Rattle.vex_forms.specs.declared.operand_fields.OperandFields.{OperandFields}
 use Rattle.vex_forms.specs.declared.row_layout.RowLayout.{RowLayout}
 use Rattle.vex_forms.specs.declared.slot.Slot.{Slot}
+use Rattle.vex_forms.specs.Layout.{row_for}
+use Rattle.vex_forms.specs.Operands.{target_seen}
 use Rattle.vex_forms.specs.Slots.{names_g, names_v, names_e, names_imm}
-use Rattle.vex_forms.specs.declared.operand_fields.OperandFields.{OperandFields}
-use Rattle.vex_forms.specs.declared.operand_e.OperandE.{OperandE}
-use Rattle.vex_forms.specs.declared.operand_e.OperandE.TheVariants.{Absent, Register, Memory}
+use Rattle.vex_encode.specs.declared.row_choice.RowChoice.{RowChoice}
 use Rattle.vex_encode.specs.declared.slot_kind.SlotKind.{SlotKind}
-use Rattle.vex_encode.specs.declared.slot_kind.SlotKind.TheVariants as kind
-use Rattle.vex_encode.specs.Standard.{operand_of_kind, number_of, imm_of}
+use Rattle.vex_encode.specs.declared.slot_kind.SlotKind.TheVariants as of_kind
+use Rattle.vex_encode.specs.Standard.{operand_of_kind, number_of, imm_of, target_of}
+use Rattle.vex_encode.specs.Conditions.{RegisterFits, AddressFits}
 
 -- whether a slot is of the kind
 abbrev pub names : SlotKind → Slot → Bool
-names kind.G slot = names_g slot
-names kind.V slot = names_v slot
-names kind.E slot = names_e slot
-names kind.Immediate slot = names_imm slot
+names of_kind.G slot = names_g slot
+names of_kind.V slot = names_v slot
+names of_kind.E slot = names_e slot
+names of_kind.Immediate slot = names_imm slot
 
--- the shortest place of the operand E
-abbrev pub place_for : OperandE → Place
-place_for Absent = NoPlace
-place_for (Register n) = Direct (n % 8)
-place_for (Memory address) = shortest (At (plain address))
+-- the row that is chosen
+abbrev pub row_chosen : RowChoice → Row
+row_chosen choice = row_for choice.entry choice.w choice.l choice.memory choice.group
 
--- the operand E is no address
-abbrev pub IsDirect : OperandE → Type 0
-IsDirect e = (address : Address) → e ≢ Memory address
+-- the kind of a row's operand E, by whether it has a ModRM byte and whether that operand is in memory
+abbrev pub kind_by : Bool → Bool → Kind
+kind_by modrm in_memory = if modrm then (if in_memory then InMemory else InRegister) else WithoutModRM
 
 -- the number that the operand at the slot of the field reg has
 abbrev pub g_of : RowLayout → Meaning → ℕ
@@ -41,26 +46,69 @@ g_of layout m = number_of (operand_of_kind names_g layout.slots.items m.operands
 abbrev pub v_of : RowLayout → Meaning → ℕ
 v_of layout m = number_of (operand_of_kind names_v layout.slots.items m.operands)
 
--- that of the slot of E
-abbrev pub e_of : RowLayout → Meaning → ℕ
-e_of layout m = number_of (operand_of_kind names_e layout.slots.items m.operands)
-
 -- that of the slot that reads the immediate byte
 abbrev pub immediate_of : RowLayout → Meaning → ℕ
 immediate_of layout m = imm_of (operand_of_kind names_imm layout.slots.items m.operands)
 
--- the prefix and the numbers that are put together for a meaning, by the layout of a row of registers
-pub record Assembles (entry : Entry) (w l : Bool) (layout : RowLayout) (m : Meaning) (prefix : Prefix) (numbers : OperandFields) : Type 0 where
-  pub map : prefix.map ≡ entry.map
-  pub pp : prefix.pp ≡ entry.pp
-  pub w_is : prefix.w ≡ w
-  pub l_is : prefix.l ≡ l
-  pub r : prefix.r ≡ ((g_of layout m / 8) % 2 == 1)
-  pub x : prefix.x ≡ false
-  pub b : prefix.b ≡ (layout.has_modrm && ((e_of layout m / 8) % 2 == 1))
-  pub vvvv : prefix.vvvv ≡ v_of layout m % 16
-  pub same_r : numbers.r ≡ prefix.r
-  pub same_vvvv : numbers.vvvv ≡ prefix.vvvv
+-- the operand at the slot of E
+abbrev pub operand_at_e : RowLayout → Meaning → OperandMeaning
+operand_at_e layout m = operand_of_kind names_e layout.slots.items m.operands
+
+-- what it asks for, in a row of this kind
+abbrev pub asked_of : Kind → RowLayout → Meaning → Target
+asked_of kind layout m = target_of kind (operand_at_e layout m)
+
+-- an operand is a register that fits a slot of this bank
+abbrev pub IsRegisterOf : RegisterBank → OperandMeaning → Type 0
+IsRegisterOf bank (register reg) = RegisterFits bank reg
+IsRegisterOf bank _ = ⊥
+
+-- an operand is an address that fits a row with an index of this bank
+abbrev pub IsAddressOf : RegisterBank → OperandMeaning → Type 0
+IsAddressOf bank (memory address) = AddressFits bank address
+IsAddressOf bank _ = ⊥
+
+-- an operand is an address
+abbrev pub IsAddress : OperandMeaning → Type 0
+IsAddress (memory address) = Unit {0}
+IsAddress _ = ⊥
+
+-- in a row with its operand E in memory, the operand there is an address that fits
+abbrev pub IsPlaced : Kind → RegisterBank → OperandMeaning → Type 0
+IsPlaced WithoutModRM bank operand = Unit {0}
+IsPlaced InRegister bank operand = Unit {0}
+IsPlaced InMemory bank operand = IsAddressOf bank operand
+
+-- the address is that of the operand, with its index in bank Q
+abbrev pub GeneralAddress : OperandMeaning → Address → Type 0
+GeneralAddress (memory address) general = general ≡ in_banks Q (plain address)
+GeneralAddress _ general = ⊥
+
+-- the operand E has the shortest place of what is asked for, with the same bits X and B
+pub record AsksFor (e : OperandE) (asked : Target) : Type 0 where
+  pub place : shortest (target_seen e) ≡ shortest asked
+  pub x : x_of (target_seen e) ≡ x_of asked
+  pub b : b_of (target_seen e) ≡ b_of asked
+
+-- bytes can name the operand E
+abbrev pub CanBePlaced : OperandE → Type 0
+CanBePlaced (Memory address) = BaseFits address.base address.index × IndexFits address.index
+CanBePlaced _ = Unit {0}
+
+-- the field reg can be added to the first byte
+abbrev pub HeadFits : List ℕ → Type 0
+HeadFits [] = Unit {0}
+HeadFits (modrm ∷ rest) = modrm < 200
+
+-- bytes from ModRM on, with the field reg added to the first
+abbrev pub with_reg : ℕ → List ℕ → List ℕ
+with_reg reg [] = []
+with_reg reg (modrm ∷ rest) = (modrm + 8 * reg) ∷ rest
+
+-- the numbers that a meaning's operands ask for, by the layout of a row
+pub record HasNumbers (kind : Kind) (layout : RowLayout) (m : Meaning) (numbers : OperandFields) : Type 0 where
+  pub r : numbers.r ≡ ((g_of layout m / 8) % 2 == 1)
+  pub vvvv : numbers.vvvv ≡ v_of layout m % 16
   pub reg : numbers.reg ≡ unwrap_or layout.group (g_of layout m % 8)
-  pub e : numbers.e ≡ (if layout.has_modrm then Register (e_of layout m % 16) else Absent)
+  pub e : AsksFor numbers.e (asked_of kind layout m)
   pub imm : numbers.imm ≡ immediate_of layout m

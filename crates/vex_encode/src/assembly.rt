@@ -1,53 +1,107 @@
-//! Putting together the standard spelling of an instruction by a row.
+//! Putting together the numbers that the operands of an instruction ask for in a row.
 
 ghost use Rattle.std.specs.Prelude.{◌≡◌, ◌≤◌, ◌<◌, length};
 ghost use Rattle.std.specs.Option.{ForSome};
-ghost use Rattle.vex_encode.specs.Assembly.{Assembles};
+ghost use Rattle.x86_operand.specs.Meaning.{memory, operand_meaning};
+ghost use Rattle.x86_operand.specs.declared.register.RegisterBank.{RegisterBank};
+ghost use Rattle.x86_operand.specs.declared.register.RegisterBank.TheVariants.{Q};
+ghost use Rattle.x86_address.specs.Shortest.{in_banks, index_register, plain, plain_index};
+ghost use Rattle.x86_address.specs.Spells.{BaseFits, IndexFits};
+ghost use Rattle.vex_forms.specs.Operands.{BanksFit, NumberFits};
+ghost use Rattle.vex_encode.specs.Assembly.{AsksFor, CanBePlaced, HasNumbers, GeneralAddress, IsAddress, IsAddressOf, IsPlaced, asked_of, operand_at_e};
+ghost use Rattle.vex_encode.specs.Kind.{kind_seen};
+ghost use Rattle.vex_encode.specs.Conditions.{AddressFits, SlotIndexFits};
 
+use crate::kind::Kind;
 use crate::slot_kind::{SlotKind, imm_of, number_of, operand_of};
 use vex_forms::{OperandE, OperandFields, RowLayout};
-use vex_rows::{Entry, Prefix};
-use x86_operand::Instruction;
+use x86_operand::{Address, Index, Instruction, Operand, RegSpec, RegisterBank};
 
-/// The prefix and the numbers of the operands, as a row of registers asks for them. They spell the instruction where
-/// anything of the row does.
-pub fn assemble(
-    entry: &Entry,
-    w: bool,
-    l: bool,
-    layout: &RowLayout,
-    instruction: &Instruction,
-) -> (Prefix, OperandFields)
-    requires { ForSome layout.now.group (λ group. group < 8) }
-    ensures { Assembles entry.now w l layout.now instruction.now.meaning result.0 result.1 }
+/// The address of an operand in memory.
+fn address_of(operand: Operand) -> Address
+    requires { IsAddress (operand_meaning operand) }
+    ensures { operand_meaning operand ≡ memory result }
+{
+    match operand {
+        Operand::MemDeref { base } => Address {
+            base: Some(base),
+            index: None,
+            disp: 0,
+        },
+        Operand::Memory { address } => address,
+        _ => unreachable!(),
+    }
+}
+
+/// The index with its register in bank `Q`.
+fn general_index(index: Option<Index>) -> Option<Index>
+    requires { (bank : RegisterBank) × SlotIndexFits bank index }
+    ensures { result ≡ index_register Q (plain_index index) }
+{
+    match index {
+        None => None,
+        Some(index) => Some(Index {
+            reg: RegSpec::of(RegisterBank::Q, index.reg.num()).unwrap(),
+            scale: index.scale,
+        }),
+    }
+}
+
+/// The address with its index in bank `Q`, whichever bank the row says that it is of.
+fn general_address(address: Address) -> Address
+    requires { (bank : RegisterBank) × AddressFits bank address }
+    ensures { result ≡ in_banks Q (plain address) }
+{
+    Address {
+        base: address.base,
+        index: general_index(address.index),
+        disp: address.disp,
+    }
+}
+
+/// The address at the slot E, with its index in bank `Q`.
+fn address_at_e(layout: &RowLayout, instruction: &Instruction) -> Address
+    requires { IsAddressOf layout.now.index_bank (operand_at_e layout.now instruction.now.meaning) }
+    ensures address { GeneralAddress (operand_at_e layout.now instruction.now.meaning) result }
+    ensures bytes { BaseFits result.base result.index × IndexFits result.index }
+{
+    let operand = operand_of(SlotKind::E, layout.slots.as_slice(), instruction);
+    general_address(address_of(operand))
+}
+
+/// What the operand at the slot E asks for.
+fn operand_e(kind: Kind, layout: &RowLayout, instruction: &Instruction) -> OperandE
+    requires { IsPlaced (kind_seen kind) layout.now.index_bank (operand_at_e layout.now instruction.now.meaning) }
+    ensures asks { AsksFor result (asked_of (kind_seen kind) layout.now instruction.now.meaning) }
+    ensures placed { CanBePlaced result }
+    ensures number { NumberFits result }
+    ensures banks { BanksFit result }
+{
+    match kind {
+        Kind::WithoutModRM => OperandE::Absent,
+        Kind::Register => {
+            let operand = operand_of(SlotKind::E, layout.slots.as_slice(), instruction);
+            OperandE::Register(number_of(operand) % 16)
+        }
+        Kind::Memory => OperandE::Memory(address_at_e(layout, instruction)),
+    }
+}
+
+/// The numbers that the operands ask for in a row with this kind of operand E.
+pub fn operand_fields(kind: Kind, layout: &RowLayout, instruction: &Instruction) -> OperandFields
+    requires group { ForSome layout.now.group (λ group. group < 8) }
+    requires e { IsPlaced (kind_seen kind) layout.now.index_bank (operand_at_e layout.now instruction.now.meaning) }
+    ensures numbers { HasNumbers (kind_seen kind) layout.now instruction.now.meaning result }
+    ensures placed { CanBePlaced result.e }
 {
     let slots = layout.slots.as_slice();
     let g = number_of(operand_of(SlotKind::G, slots, instruction));
     let v = number_of(operand_of(SlotKind::V, slots, instruction));
-    let e = number_of(operand_of(SlotKind::E, slots, instruction));
-    let imm = imm_of(operand_of(SlotKind::Immediate, slots, instruction));
-    // A number may be up to 31. The fields keep its low four bits, which then name another register, so that what is
-    // spelled isn't what was given.
-    let prefix = Prefix {
-        map: entry.map,
-        pp: entry.pp,
-        w,
-        l,
+    OperandFields {
         r: g / 8 % 2 == 1,
-        x: false,
-        b: layout.has_modrm && e / 8 % 2 == 1,
         vvvv: v % 16,
-    };
-    let numbers = OperandFields {
-        r: prefix.r,
-        vvvv: prefix.vvvv,
         reg: layout.group.unwrap_or(g % 8),
-        e: if layout.has_modrm {
-            OperandE::Register(e % 16)
-        } else {
-            OperandE::Absent
-        },
-        imm,
-    };
-    (prefix, numbers)
+        e: operand_e(kind, layout, instruction),
+        imm: imm_of(operand_of(SlotKind::Immediate, slots, instruction)),
+    }
 }

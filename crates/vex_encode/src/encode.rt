@@ -1,34 +1,199 @@
-//! The shortest spelling of an instruction, over all rows of registers.
+//! The shortest spelling of an instruction.
 
-ghost use Rattle.std.specs.Prelude.{◌≡◌, ◌<◌, false, Some};
-ghost use Rattle.vex_rows.specs.Row.{Among, choices};
+ghost use Rattle.std.specs.Prelude.{ℕ, ◌≡◌, ◌+◌, ◌<◌, ◌≤◌, flat_map, if◌then◌else◌};
+ghost use Rattle.std.specs.List.{list_any};
+ghost use Rattle.x86_operand.specs.Meaning.{operand_meaning};
+ghost use Rattle.vex_rows.specs.declared.entry.Entry.{Entry};
+ghost use Rattle.vex_rows.specs.Row.{Among, choices, choices_of_l, choices_of_w};
+ghost use Rattle.vex_rows.specs.Groups.{groups};
 ghost use Rattle.vex_rows.specs.Table.{table};
-ghost use Rattle.vex_forms.specs.Layout.{row_for};
+ghost use Rattle.vex_forms.specs.Layout.{IsLayout};
+ghost use Rattle.vex_decode.specs.Spelling.{bytes_of};
+ghost use Rattle.vex_encode.specs.Assembly.{row_chosen};
 ghost use Rattle.vex_encode.specs.Canon.{canon};
-ghost use Rattle.vex_encode.specs.Encode.{standard_of, shorter_of, best};
+ghost use Rattle.vex_encode.specs.Conditions.{CanGive};
+ghost use Rattle.vex_encode.specs.Encode.{best, first, is_address, shorter_of, standard_of};
+ghost use Rattle.vex_encode.specs.Kind.{kind_seen};
+ghost use Rattle.vex_encode.specs.Standard.{candidate};
 
-use crate::assembly::assemble;
+use crate::assembly::operand_fields;
+use crate::fits::can_give;
+use crate::kind::Kind;
+use crate::place::place_of;
+use crate::row_choice::RowChoice;
 use crate::spell::spell;
 use crate::spelling::Spelling;
-use std::marker::Brand;
-use std::sync::ledger::{Blank, Ledger};
+use arrayvec::ArrayVec;
+use std::sync::ledger::Ledger;
 use step_counter::Steps;
-use vex_forms::{instruction_of, layout};
-use vex_rows::{Entry, entry_at, entry_count};
-use x86_operand::Instruction;
+use vex_forms::{RowLayout, layout};
+use vex_rows::{Entry, Form, Prefix, entries_of, row_of_form};
+use x86_operand::{Instruction, Opcode, Operand};
 
-/// The standard spelling of an instruction by a row of an entry without groups, where there is one.
-fn standard(entry: &Entry, w: bool, l: bool, instruction: &Instruction) -> Option<Spelling>
-    requires { Among entry.now table }
-    ensures { result ≡ standard_of (row_for entry.now w l false 0) instruction.now.meaning }
+/// Whether an operand is an address.
+fn is_address(operand: Operand) -> bool
+    ensures { result ≡ is_address (operand_meaning operand) }
 {
-    let layout = layout(entry, w, l, false, 0)?;
-    let (prefix, numbers) = assemble(entry, w, l, &layout, instruction);
-    if instruction_of(&layout, &numbers).has_same_meaning(instruction) {
-        Some(spell(&prefix, entry.byte, &numbers, layout.has_imm))
+    matches!(operand, Operand::MemDeref { .. } | Operand::Memory { .. })
+}
+
+/// Whether an operand of an instruction is an address.
+fn has_address(instruction: &Instruction) -> bool
+    ensures { result ≡ list_any is_address instruction.now.meaning.operands }
+{
+    for i in 0..instruction.operand_count() {
+        if is_address(instruction.operand(i)) {
+            return true;
+        }
+    }
+    false
+}
+
+/// The spelling of an instruction by a row that can give it.
+fn spelling_by(
+    choice: &RowChoice,
+    kind: Kind,
+    layout: &RowLayout,
+    instruction: &Instruction,
+) -> Spelling
+    requires kind { (row_chosen choice.now).kind ≡ kind_seen kind }
+    requires layout { IsLayout (row_chosen choice.now) layout.now }
+    requires gives { CanGive (row_chosen choice.now) instruction.now.meaning }
+    ensures { result ≡ bytes_of (row_chosen choice.now) (candidate (row_chosen choice.now) instruction.now.meaning) }
+{
+    let numbers = operand_fields(kind, layout, instruction);
+    let place = place_of(numbers.e);
+    let prefix = Prefix {
+        map: choice.entry.map,
+        pp: choice.entry.pp,
+        w: choice.w,
+        l: choice.l,
+        r: numbers.r,
+        x: place.x,
+        b: place.b,
+        vvvv: numbers.vvvv,
+    };
+    spell(&prefix, choice.entry.byte, &numbers, &place, layout.has_imm)
+}
+
+/// The standard spelling of an instruction by a row of its kind, where the row exists and can give it.
+fn standard(choice: &RowChoice, instruction: &Instruction) -> Option<Spelling>
+    requires listed { Among choice.now.entry table }
+    requires memory { choice.now.memory ≡ list_any is_address instruction.now.meaning.operands }
+    ensures { result ≡ standard_of (row_chosen choice.now) instruction.now.meaning }
+{
+    let layout = layout(
+        &choice.entry,
+        choice.w,
+        choice.l,
+        choice.memory,
+        choice.group,
+    )?;
+    let kind = Kind::of(&layout, choice.memory);
+    if can_give(kind, &layout, instruction) {
+        Some(spelling_by(choice, kind, &layout, instruction))
     } else {
         None
     }
+}
+
+/// The reg fields that a form allows where it has groups, each with its opcode, and none where it has no groups.
+#[tactic(auto, unfolding(vex_rows::specs::Groups::groups))]
+fn groups_of(form: Form) -> ArrayVec<(u8, Opcode), 4>
+    ensures { (l : ℕ) → result.items ≡ groups form l }
+{
+    row_of_form(form).groups.items()
+}
+
+/// The standard spelling by the first row of an entry at that W and L that can give an instruction. `memory` says
+/// whether it has an address; a row of another kind can't give it.
+fn standard_by_group(
+    entry: &Entry,
+    w: bool,
+    l: bool,
+    memory: bool,
+    reg_groups: &[(u8, Opcode)],
+    instruction: &Instruction,
+) -> Option<Spelling>
+    requires listed { Among entry.now table }
+    requires groups { (l : ℕ) → reg_groups.now ≡ groups entry.now.form l }
+    requires memory { memory ≡ list_any is_address instruction.now.meaning.operands }
+    ensures { result ≡ first instruction.now.meaning (choices_of_l entry.now w (if l then 1 else 0)) }
+{
+    if reg_groups.is_empty() {
+        let choice = RowChoice {
+            entry: *entry,
+            w,
+            l,
+            memory,
+            group: 0,
+        };
+        return standard(&choice, instruction);
+    }
+    for group in reg_groups {
+        let choice = RowChoice {
+            entry: *entry,
+            w,
+            l,
+            memory,
+            group: group.0,
+        };
+        let found = standard(&choice, instruction);
+        if found.is_some() {
+            return found;
+        }
+    }
+    None
+}
+
+/// The standard spelling by the first row of an entry at that W that can give an instruction.
+fn standard_by_l(
+    entry: &Entry,
+    w: bool,
+    memory: bool,
+    reg_groups: &[(u8, Opcode)],
+    instruction: &Instruction,
+) -> Option<Spelling>
+    requires listed { Among entry.now table }
+    requires groups { (l : ℕ) → reg_groups.now ≡ groups entry.now.form l }
+    requires memory { memory ≡ list_any is_address instruction.now.meaning.operands }
+    ensures { result ≡ first instruction.now.meaning (choices_of_w entry.now w) }
+{
+    let found = standard_by_group(entry, w, false, memory, reg_groups, instruction);
+    if found.is_some() {
+        return found;
+    }
+    standard_by_group(entry, w, true, memory, reg_groups, instruction)
+}
+
+/// The shortest standard spelling of an instruction by the rows of an entry with these groups, where there is one. That
+/// is the one of the first row that can give it: the rows differ in length by W alone, and those with W 0 come first.
+fn standard_by_w(
+    entry: &Entry,
+    memory: bool,
+    reg_groups: &[(u8, Opcode)],
+    instruction: &Instruction,
+) -> Option<Spelling>
+    requires listed { Among entry.now table }
+    requires groups { (l : ℕ) → reg_groups.now ≡ groups entry.now.form l }
+    requires memory { memory ≡ list_any is_address instruction.now.meaning.operands }
+    ensures { result ≡ best instruction.now.meaning (choices entry.now) }
+{
+    let found = standard_by_l(entry, false, memory, reg_groups, instruction);
+    if found.is_some() {
+        return found;
+    }
+    standard_by_l(entry, true, memory, reg_groups, instruction)
+}
+
+/// The shortest standard spelling of an instruction by the rows of an entry, where there is one.
+fn standard_by_entry(entry: &Entry, memory: bool, instruction: &Instruction) -> Option<Spelling>
+    requires listed { Among entry.now table }
+    requires memory { memory ≡ list_any is_address instruction.now.meaning.operands }
+    ensures { result ≡ best instruction.now.meaning (choices entry.now) }
+{
+    let groups = groups_of(entry.form);
+    standard_by_w(entry, memory, groups.as_slice(), instruction)
 }
 
 /// The shorter of two spellings that may be missing, the first where both are equally long.
@@ -48,42 +213,27 @@ fn shorter(first: Option<Spelling>, second: Option<Spelling>) -> Option<Spelling
     }
 }
 
-/// The shortest standard spelling of an instruction by the rows of an entry, where there is one.
-fn standard_by_entry(entry: &Entry, instruction: &Instruction) -> Option<Spelling>
-    requires { Among entry.now table }
-    ensures { result ≡ best instruction.now.meaning (choices entry.now) }
+/// The shortest standard spelling of an instruction by the rows of some entries, where there is one: the first of
+/// least length.
+fn standard_by_entries(entries: &[Entry], instruction: &Instruction) -> Option<Spelling>
+    requires { (entry : Entry) → Among entry entries.now → Among entry table }
+    ensures { result ≡ best instruction.now.meaning (flat_map choices entries.now) }
 {
-    let with_w0 = shorter(
-        standard(entry, false, false, instruction),
-        standard(entry, false, true, instruction),
-    );
-    let with_w1 = shorter(
-        standard(entry, true, false, instruction),
-        standard(entry, true, true, instruction),
-    );
-    shorter(with_w0, with_w1)
-}
-
-/// The shortest standard spelling by all entries, with a counter of its own.
-fn shortest_by_all<L: Ledger>(instruction: &Instruction, blank: Blank) -> Option<Spelling>
-    requires name { blank.name ≡ L.name }
-    requires parts { blank.parts ≡ L.parts }
-    requires some { 0 < blank.parts }
-    ensures { result ≡ canon instruction.now.meaning }
-{
-    let mut steps = Steps::<L>::new(blank);
+    let memory = has_address(instruction);
     let mut shortest = None;
-    for i in 0..entry_count() {
-        let entry = entry_at(i, &mut steps);
-        shortest = shorter(shortest, standard_by_entry(&entry, instruction));
+    for entry in entries {
+        let found = standard_by_entry(entry, memory, instruction);
+        shortest = shorter(shortest, found);
     }
     shortest
 }
 
 /// The canonical bytes of an instruction's meaning, `None` exactly where no bytes spell it. The length that the
-/// instruction holds plays no part.
-pub fn canonical(instruction: &Instruction) -> Option<Spelling>
-    ensures { result ≡ canon instruction.now.meaning }
+/// instruction holds plays no part. Counts a probe for each entry of the opcode, at most four.
+pub fn canonical<L: Ledger>(instruction: &Instruction, steps: &mut Steps<L>) -> Option<Spelling>
+    ensures canonical { result ≡ canon instruction.now.meaning }
+    ensures counted { steps.new ≤ steps.old + 4 }
 {
-    shortest_by_all::<Brand>(instruction, Blank::new(1))
+    let entries = entries_of(instruction.opcode(), steps);
+    standard_by_entries(entries.as_slice(), instruction)
 }

@@ -3,17 +3,25 @@
 
 mod assembly;
 mod encode;
+mod fits;
+mod kind;
 pub mod laws;
+mod place;
 mod recoder;
+mod row_choice;
+mod shortest;
 mod slot_kind;
 mod spell;
 mod spelling;
 mod sweeper;
 
 pub use recoder::recode;
+pub use shortest::encode_shortest;
 pub use spelling::Spelling;
 pub use sweeper::{Items, NoMemory, SweepEnd, SweepItem, SweepResult, sweep};
 
+#[cfg(test)]
+mod encode_tests;
 #[cfg(test)]
 mod sweep_tests;
 #[cfg(test)]

@@ -1,6 +1,6 @@
 //! Decoding the instruction at the front of a slice, and its canonical bytes.
 
-ghost use Rattle.std.specs.Prelude.{◌≡◌, ◌≤◌, ◌↔◌, length, ℕ, IsOk, IfOk, IfErr, Some, None, true, take};
+ghost use Rattle.std.specs.Prelude.{◌≡◌, ◌<◌, ◌≤◌, ◌↔◌, length, ℕ, IsOk, IfOk, IfErr, Some, None, true, take};
 ghost use Rattle.x86_permit.specs.Permission.{permits};
 ghost use Rattle.vex_decode.specs.Spelling.{Spells};
 ghost use Rattle.vex_decode.specs.Blocked.{blocked};
@@ -9,16 +9,29 @@ ghost use Rattle.vex_encode.specs.Recode.{Recodes};
 
 use crate::encode::canonical;
 use crate::spelling::Spelling;
+use std::marker::Brand;
+use std::sync::ledger::{Blank, Ledger};
+use step_counter::Steps;
 use vex_decode::Decoder;
 use x86_operand::{DecodeError, Instruction};
 use x86_settings::InstDecoder;
+
+/// The canonical bytes of an instruction's meaning, with a counter of their own.
+fn canonical_bytes<L: Ledger>(instruction: &Instruction, blank: Blank) -> Option<Spelling>
+    requires name { blank.name ≡ L.name }
+    requires parts { blank.parts ≡ L.parts }
+    requires some { 0 < blank.parts }
+    ensures { result ≡ canon instruction.now.meaning }
+{
+    canonical(instruction, &mut Steps::<L>::new(blank))
+}
 
 /// The instruction and its canonical bytes, with all that is known of them at once.
 fn recode_all(decoder: &InstDecoder, bytes: &[u8]) -> Result<(Instruction, Spelling), DecodeError>
     ensures { Recodes decoder.now bytes.now result }
 {
     let instruction = decoder.decode_slice(bytes)?;
-    match canonical(&instruction) {
+    match canonical_bytes::<Brand>(&instruction, Blank::new(1)) {
         Some(spelling) => Ok((instruction, spelling)),
         None => unreachable!(),
     }

@@ -1,30 +1,34 @@
--- What is made of the row is its standard spelling.
-use Rattle.std.specs.Prelude.{false}
-use Rattle.std.proofs.Common.{◌∙◌, refl}
-use Rattle.vex_forms.specs.Layout.{row_for}
-use Rattle.vex_encode.proofs.Assembled.{assembled_is}
-use Rattle.vex_encode.proofs.Made.{meaning_made, bytes_made, standard_made, standard_refused, second_true}
+-- A row that can give the meaning gives its standard spelling; no other row does.
+use Rattle.std.proofs.Common.{ap, refl, sym, ◌∙◌}
+use Rattle.vex_forms.proofs.Choosing.{choice-is_row}
+use Rattle.vex_encode.specs.Assembly.{kind_by, row_chosen}
+use Rattle.vex_encode.proofs.Entries.{no_row, first_true, second_true, standard_given, standard_refused}
 use Rattle.vex_encode.proofs.encode.standard.Goals as goal
 
-pub returns-then-has_same_meaning : goal.returns-then-has_same_meaning
-returns-then-has_same_meaning c =
-    let row = row_for c.args.entry.now c.args.w c.args.l false 0 in
-    let m = c.args.instruction.now.meaning in
-    let is = c.in_ok-layout.ensures.row in
-    let made = assembled_is c.args.entry.now c.args.w c.args.l 0 c.in_ok-layout.layout m c.assemble-numbers.result.0 c.assemble-numbers.result.1 is c.assemble-numbers.ensures in
-    standard_made row m c.instruction_of.result.meaning c.spell.result
-    (second_true _ _ (c.in_ok-layout.ensures.exists.0 refl))
-    (c.instruction_of.ensures.meaning row is ∙ meaning_made row c.in_ok-layout.layout m c.assemble-numbers.result.0 c.assemble-numbers.result.1 is made c.assemble-numbers.ensures.same_r c.assemble-numbers.ensures.same_vvvv)
-    (c.has_same_meaning.ensures.0 c.if-has_same_meaning.true)
-    (c.spell.ensures ∙ bytes_made row c.in_ok-layout.layout m c.assemble-numbers.result.0 c.assemble-numbers.result.1 is made c.assemble-numbers.ensures.same_r c.assemble-numbers.ensures.same_vvvv)
+pub returns-in_err-layout : goal.returns-in_err-layout
+returns-in_err-layout c =
+    let choice = c.args.choice.now in
+    c.from_residual.ensures
+    ∙ no_row choice.entry choice.w choice.l choice.memory choice.group c.args.instruction.now.meaning c.requires.memory (λ h. let there = c.in_err-layout.ensures.exists.1 h in cc)
 
-pub returns-else-has_same_meaning : goal.returns-else-has_same_meaning
-returns-else-has_same_meaning c =
-    let row = row_for c.args.entry.now c.args.w c.args.l false 0 in
-    let m = c.args.instruction.now.meaning in
+pub returns-then-can_give : goal.returns-then-can_give
+returns-then-can_give c =
+    let choice = c.args.choice.now in
     let is = c.in_ok-layout.ensures.row in
-    let made = assembled_is c.args.entry.now c.args.w c.args.l 0 c.in_ok-layout.layout m c.assemble-numbers.result.0 c.assemble-numbers.result.1 is c.assemble-numbers.ensures in
-    standard_refused row m c.instruction_of.result.meaning
-    (second_true _ _ (c.in_ok-layout.ensures.exists.0 refl))
-    (c.instruction_of.ensures.meaning row is ∙ meaning_made row c.in_ok-layout.layout m c.assemble-numbers.result.0 c.assemble-numbers.result.1 is made c.assemble-numbers.ensures.same_r c.assemble-numbers.ensures.same_vvvv)
-    (λ e. let yes = c.has_same_meaning.ensures.1 e in cc)
+    let both = c.in_ok-layout.ensures.exists.0 refl in
+    let there = second_true _ _ both in
+    let is_row = choice-is_row choice.entry choice.w choice.l choice.memory choice.group c.requires.listed (first_true _ _ both) there in
+    let kind = sym (c.of-kind.ensures ∙ ap (λ modrm. kind_by modrm choice.memory) is.has_modrm) in
+    standard_given (row_chosen choice) c.args.instruction.now.meaning c.spelling_by.result is_row there
+    ((c.can_give.ensures (row_chosen choice) is kind).0 c.if-can_give.true) c.spelling_by.ensures
+
+pub returns-else-can_give : goal.returns-else-can_give
+returns-else-can_give c =
+    let choice = c.args.choice.now in
+    let is = c.in_ok-layout.ensures.row in
+    let both = c.in_ok-layout.ensures.exists.0 refl in
+    let there = second_true _ _ both in
+    let is_row = choice-is_row choice.entry choice.w choice.l choice.memory choice.group c.requires.listed (first_true _ _ both) there in
+    let kind = sym (c.of-kind.ensures ∙ ap (λ modrm. kind_by modrm choice.memory) is.has_modrm) in
+    standard_refused (row_chosen choice) c.args.instruction.now.meaning is_row there
+    (λ gives. let yes = (c.can_give.ensures (row_chosen choice) is kind).1 gives in cc (yes, c.if-can_give.false))

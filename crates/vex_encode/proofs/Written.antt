@@ -1,0 +1,116 @@
+-- What is put together and written for a row that can give a meaning is its standard spelling.
+use Rattle.std.specs.Prelude.{◌≡◌, refl, ℕ, ◌/◌, ◌%◌, ◌<◌, ◌++◌, ◌∷◌, Bool, true, false, ◌==◌, Option, Some, None, unwrap_or, if◌then◌else◌}
+use Rattle.std.specs.Option.{ForSome}
+use Rattle.std.proofs.Common.{zero, suc, arith, ap, ap₂, sym, ◌∙◌, subst}
+use Rattle.x86_operand.specs.Kind.{Kind, WithoutModRM, InRegister, InMemory}
+use Rattle.x86_operand.specs.Meaning.{Meaning}
+use Rattle.x86_address.specs.Bytes.{bit}
+use Rattle.x86_address.specs.Place.{Place, NoPlace, Direct, Based, RipBased, Scaled, Baseless, place_bytes, tail_of}
+use Rattle.x86_address.specs.Shortest.{shortest, x_of, b_of}
+use Rattle.x86_address.specs.declared.encode.AddressBytes.{AddressBytes}
+use Rattle.vex_rows.specs.declared.key.Prefix.{Prefix}
+use Rattle.vex_rows.specs.Row.{has_groups}
+use Rattle.vex_rows.specs.Steps.{steps}
+use Rattle.vex_forms.specs.declared.operand_fields.OperandFields.{OperandFields}
+use Rattle.vex_forms.specs.declared.row_layout.RowLayout.{RowLayout}
+use Rattle.vex_forms.specs.Slots.{slots, names_g, names_v, names_e, names_imm}
+use Rattle.vex_forms.specs.Layout.{IsLayout}
+use Rattle.vex_forms.specs.Fields.{fields_of}
+use Rattle.vex_forms.specs.Operands.{target_seen}
+use Rattle.vex_decode.specs.Fields.{prefix_bytes, shortest_form}
+use Rattle.vex_decode.specs.Spelling.{bytes_of, imm_bytes}
+use Rattle.vex_encode.specs.declared.row_choice.RowChoice.{RowChoice}
+use Rattle.vex_encode.specs.Standard.{operand_of_kind, number_of, imm_of, target_of, reg_for, candidate}
+use Rattle.vex_encode.specs.Assembly.{HasNumbers, IsPlaced, row_chosen, with_reg, operand_at_e}
+use Rattle.vex_encode.specs.Conditions.{CanGive}
+use Rattle.vex_encode.proofs.Entries.{with_e}
+use Rattle.vex_encode.proofs.Fitting.{placed}
+
+bit_again : (n : ℕ) → n < 2 → bit (n == 1) ≡ n
+bit_again zero h = refl
+bit_again (suc zero) h = refl
+bit_again (suc (suc n)) h = absurd (omega arith)
+
+l_seen : (l : Bool) → bit l ≡ (if l then 1 else 0)
+l_seen true = refl
+l_seen false = refl
+
+reg_made : (group : Option ℕ) (g : ℕ) → unwrap_or group (g % 8) ≡ reg_for group g
+reg_made None g = refl
+reg_made (Some group) g = refl
+
+-- the field reg is added to the first byte
+reg_added : (reg : ℕ) (place : Place) → with_reg reg (place_bytes 0 place) ≡ place_bytes reg place
+reg_added reg NoPlace = refl
+reg_added reg (Direct rm) = ap (λ n. n ∷ tail_of (Direct rm)) (omega arith)
+reg_added reg (Based rm d) = ap (λ n. n ∷ tail_of (Based rm d)) (omega arith)
+reg_added reg (RipBased n) = ap (λ k. k ∷ tail_of (RipBased n)) (omega arith)
+reg_added reg (Scaled k i j d) = ap (λ n. n ∷ tail_of (Scaled k i j d)) (omega arith)
+reg_added reg (Baseless k i n) = ap (λ m. m ∷ tail_of (Baseless k i n)) (omega arith)
+
+-- a row in memory has a ModRM byte
+memory_modrm : (modrm memory : Bool) → (if modrm then (if memory then InMemory else InRegister) else WithoutModRM) ≡ InMemory → modrm ≡ true
+memory_modrm true memory h = refl
+memory_modrm false memory h = cc
+
+group_small : (has : Bool) (group n : ℕ) → group < 8 → (if has then Some group else None) ≡ Some n → n < 8
+group_small true group n h e = let same : group ≡ n = cc in omega (arith, same)
+group_small false group n h e = cc
+
+module _ (choice : RowChoice) (layout : RowLayout) (is : IsLayout (row_chosen choice) layout) where
+  -- a group is a value of three bits
+  pub layout_group : choice.group < 8 → ForSome layout.group (λ group. group < 8)
+  layout_group small = λ n e. group_small (has_groups choice.entry.form) choice.group n small (sym is.group ∙ e)
+
+  -- the operand E is an address that fits
+  pub layout_placed : (kind : Kind) (m : Meaning) → (row_chosen choice).kind ≡ kind → CanGive (row_chosen choice) m → IsPlaced kind layout.index_bank (operand_at_e layout m)
+  unfolding slots
+  layout_placed kind m k gives =
+      let row = row_chosen choice in
+      let fits = placed row.kind _ (slots row) m.operands gives.operands (λ memory. with_e row.entry.form row (memory_modrm (steps choice.entry.form).modrm choice.memory memory)) in
+      subst (λ kind. IsPlaced kind layout.index_bank (operand_at_e layout m)) k
+      (rw (is.index_bank, is.slots) fits)
+
+  module _ (kind : Kind) (m : Meaning) (numbers : OperandFields) (place : AddressBytes) (k : (row_chosen choice).kind ≡ kind) (has : HasNumbers kind layout m numbers)
+      (bytes : place.bytes.items ≡ place_bytes 0 (shortest (target_seen numbers.e))) (x : place.x ≡ x_of (target_seen numbers.e)) (b : place.b ≡ b_of (target_seen numbers.e)) where
+    abbrev pub prefix : Prefix
+    prefix = record { map = choice.entry.map; pp = choice.entry.pp; w = choice.w; l = choice.l; r = numbers.r; x = place.x; b = place.b; vvvv = numbers.vvvv }
+
+    asked : target_of kind (operand_of_kind names_e layout.slots.items m.operands) ≡ target_of (row_chosen choice).kind (operand_of_kind names_e (slots (row_chosen choice)) m.operands)
+    asked = ap₂ (λ kind slots. target_of kind (operand_of_kind names_e slots m.operands)) (sym k) is.slots
+
+    fields_made : fields_of prefix ≡ (candidate (row_chosen choice) m).fields
+    unfolding candidate
+    fields_made =
+        let g = number_of (operand_of_kind names_g layout.slots.items m.operands) in
+        let r : bit numbers.r ≡ (number_of (operand_of_kind names_g (slots (row_chosen choice)) m.operands) / 8) % 2 =
+        ap bit has.r ∙ bit_again ((g / 8) % 2) (omega arith) ∙ ap (λ s. (number_of (operand_of_kind names_g s m.operands) / 8) % 2) is.slots in
+        let v : numbers.vvvv ≡ number_of (operand_of_kind names_v (slots (row_chosen choice)) m.operands) % 16 = has.vvvv ∙ ap (λ s. number_of (operand_of_kind names_v s m.operands) % 16) is.slots in
+        let x_is : place.x ≡ x_of (target_of (row_chosen choice).kind (operand_of_kind names_e (slots (row_chosen choice)) m.operands)) = x ∙ has.e.x ∙ ap x_of asked in
+        let b_is : place.b ≡ b_of (target_of (row_chosen choice).kind (operand_of_kind names_e (slots (row_chosen choice)) m.operands)) = b ∙ has.e.b ∙ ap b_of asked in
+        let l : bit choice.l ≡ (if choice.l then 1 else 0) = l_seen choice.l in
+        λ i. record { map = choice.entry.map; pp = choice.entry.pp; w = choice.w; l = l i; r = r i; x = x_is i; b = b_is i; v = v i }
+
+    reg_is : numbers.reg ≡ (candidate (row_chosen choice) m).reg
+    unfolding candidate
+    reg_is = has.reg ∙ ap₂ (λ group s. unwrap_or group (number_of (operand_of_kind names_g s m.operands) % 8)) is.group is.slots ∙ reg_made (row_chosen choice).group _
+
+    place_is : place.bytes.items ≡ place_bytes 0 (candidate (row_chosen choice) m).place
+    unfolding candidate
+    place_is = bytes ∙ ap (place_bytes 0) (has.e.place ∙ ap shortest asked)
+
+    imm_is : numbers.imm ≡ (candidate (row_chosen choice) m).imm
+    unfolding candidate
+    imm_is = has.imm ∙ ap (λ s. imm_of (operand_of_kind names_imm s m.operands)) is.slots
+
+    form_is : (candidate (row_chosen choice) m).form ≡ shortest_form (candidate (row_chosen choice) m).fields
+    unfolding candidate
+    form_is = refl
+
+    pub written : prefix_bytes (shortest_form (fields_of prefix)) (fields_of prefix) ++ choice.entry.byte ∷ (with_reg numbers.reg place.bytes.items ++ imm_bytes layout.has_imm numbers.imm) ≡ bytes_of (row_chosen choice) (candidate (row_chosen choice) m)
+    written =
+        let front : prefix_bytes (shortest_form (fields_of prefix)) (fields_of prefix) ≡ prefix_bytes (candidate (row_chosen choice) m).form (candidate (row_chosen choice) m).fields =
+        ap (λ f. prefix_bytes (shortest_form f) f) fields_made ∙ ap (λ form. prefix_bytes form (candidate (row_chosen choice) m).fields) (sym form_is) in
+        let place_and_reg : with_reg numbers.reg place.bytes.items ≡ place_bytes (candidate (row_chosen choice) m).reg (candidate (row_chosen choice) m).place =
+        ap₂ with_reg reg_is place_is ∙ reg_added _ (candidate (row_chosen choice) m).place in
+        λ i. front i ++ choice.entry.byte ∷ (place_and_reg i ++ imm_bytes (is.has_imm i) (imm_is i))

@@ -1,0 +1,24 @@
+-- The rows with W 0 come before those with W 1.
+use Rattle.std.proofs.Common.{true, ap, sym, ◌∙◌}
+use Rattle.vex_rows.specs.Row.{choices_of_w}
+use Rattle.vex_encode.specs.Encode.{first, first_of}
+use Rattle.vex_encode.proofs.Entries.{best_of_entry}
+use Rattle.vex_encode.proofs.Search.{first_found, first_missing}
+use Rattle.vex_encode.proofs.encode.standard_by_w.Goals as goal
+
+pub returns-then-is_some : goal.returns-then-is_some
+returns-then-is_some c =
+    let m = c.args.instruction.now.meaning in
+    let later = first m (choices_of_w c.args.entry.now true) in
+    first_found c.standard_by_l-found.result later (sym c.is_some.ensures ∙ c.if-is_some.true)
+    ∙ ap (λ o. first_of o later) c.standard_by_l-found.ensures
+    ∙ sym (best_of_entry m c.args.entry.now)
+
+pub returns : goal.returns
+returns c =
+    let m = c.args.instruction.now.meaning in
+    let later = first m (choices_of_w c.args.entry.now true) in
+    c.standard_by_l.ensures
+    ∙ first_missing c.standard_by_l-found.result later (sym c.is_some.ensures ∙ c.if-is_some.false)
+    ∙ ap (λ o. first_of o later) c.standard_by_l-found.ensures
+    ∙ sym (best_of_entry m c.args.entry.now)

@@ -1,0 +1,137 @@
+//! Whether a row can give an instruction: what it asks of the mark, the opcode, the size and each operand.
+
+ghost use Rattle.std.specs.Prelude.{◌≡◌, ◌↔◌, ◌≤◌, IsTrue, length};
+ghost use Rattle.x86_operand.specs.Meaning.{operand_meaning};
+ghost use Rattle.vex_rows.specs.Row.{Row};
+ghost use Rattle.vex_forms.specs.Layout.{IsLayout};
+ghost use Rattle.vex_encode.specs.Assembly.{IsAddressOf, IsRegisterOf};
+ghost use Rattle.vex_encode.specs.Kind.{kind_seen};
+ghost use Rattle.vex_encode.specs.Conditions.{AddressFits, CanGive, OperandFits, OperandsFit, PlacedFits, RegisterFits, SlotBaseFits, SlotIndexFits};
+
+use crate::kind::Kind;
+use vex_forms::{RowLayout, Slot};
+use x86_operand::{Address, Index, Instruction, Operand, RegSpec, RegisterBank};
+
+/// Whether a register is one of the sixteen of a bank that a prefix can name.
+fn register_fits(bank: RegisterBank, reg: RegSpec) -> bool
+    ensures { IsTrue result ↔ RegisterFits bank reg }
+{
+    reg.bank() == bank && reg.num() <= 15
+}
+
+/// Whether an address can have this base beside this index.
+fn base_fits(base: Option<RegSpec>, index: Option<Index>) -> bool
+    ensures { IsTrue result ↔ SlotBaseFits base index }
+{
+    match base {
+        None => true,
+        Some(base) => match base.bank() {
+            RegisterBank::Q => register_fits(RegisterBank::Q, base),
+            RegisterBank::RIP => base.num() == 0 && index.is_none(),
+            _ => false,
+        },
+    }
+}
+
+/// Whether an address can have this index, of that bank: the number 4 means none (Intel SDM volume 2, section 2.1.5).
+fn index_fits(bank: RegisterBank, index: Option<Index>) -> bool
+    ensures { IsTrue result ↔ SlotIndexFits bank index }
+{
+    match index {
+        None => true,
+        Some(index) => {
+            register_fits(bank, index.reg)
+                && index.reg.num() != 4
+                && matches!(index.scale, 1 | 2 | 4 | 8)
+        }
+    }
+}
+
+/// Whether bytes can name an address with an index of that bank.
+fn address_fits(bank: RegisterBank, address: Address) -> bool
+    ensures { IsTrue result ↔ AddressFits bank address }
+{
+    base_fits(address.base, address.index) && index_fits(bank, address.index)
+}
+
+/// Whether an operand is a register that can stand at a slot of that bank.
+fn is_register_of(bank: RegisterBank, operand: Operand) -> bool
+    ensures { IsTrue result ↔ IsRegisterOf bank (operand_meaning operand) }
+{
+    match operand {
+        Operand::Register { reg } => register_fits(bank, reg),
+        _ => false,
+    }
+}
+
+/// Whether an operand is an address that bytes can name, with an index of that bank.
+fn is_address_of(bank: RegisterBank, operand: Operand) -> bool
+    ensures { IsTrue result ↔ IsAddressOf bank (operand_meaning operand) }
+{
+    match operand {
+        Operand::MemDeref { base } => base_fits(Some(base), None),
+        Operand::Memory { address } => address_fits(bank, address),
+        _ => false,
+    }
+}
+
+/// Whether an operand can stand at a slot E of that bank.
+fn placed_fits(kind: Kind, index_bank: RegisterBank, bank: RegisterBank, operand: Operand) -> bool
+    ensures { IsTrue result ↔ PlacedFits (kind_seen kind) index_bank bank (operand_meaning operand) }
+{
+    match kind {
+        Kind::WithoutModRM => false,
+        Kind::Register => is_register_of(bank, operand),
+        Kind::Memory => is_address_of(index_bank, operand),
+    }
+}
+
+/// Whether an operand can stand at a slot.
+fn operand_fits(kind: Kind, index_bank: RegisterBank, slot: Slot, operand: Operand) -> bool
+    ensures { IsTrue result ↔ OperandFits (kind_seen kind) index_bank slot (operand_meaning operand) }
+{
+    match slot {
+        Slot::G(bank) => is_register_of(bank, operand),
+        Slot::V(bank) => is_register_of(bank, operand),
+        Slot::E(bank) => placed_fits(kind, index_bank, bank, operand),
+        Slot::U8 => matches!(operand, Operand::ImmediateU8 { .. }),
+        Slot::I8 => matches!(operand, Operand::ImmediateI8 { .. }),
+        Slot::R4(bank) => is_register_of(bank, operand),
+    }
+}
+
+/// Whether there are as many operands as slots, and each can stand at its slot.
+fn operands_fit(
+    kind: Kind,
+    index_bank: RegisterBank,
+    slots: &[Slot],
+    instruction: &Instruction,
+) -> bool
+    ensures { IsTrue result ↔ OperandsFit (kind_seen kind) index_bank slots.now instruction.now.meaning.operands }
+{
+    if usize::from(instruction.operand_count()) != slots.len() {
+        return false;
+    }
+    for (i, slot) in slots.iter().enumerate() {
+        if !operand_fits(kind, index_bank, *slot, instruction.operand(i as u8)) {
+            return false;
+        }
+    }
+    true
+}
+
+/// Whether the row of a layout, with this kind of operand E, can give an instruction.
+pub fn can_give(kind: Kind, layout: &RowLayout, instruction: &Instruction) -> bool
+    ensures { (row : Row) → IsLayout row layout.now → row.kind ≡ kind_seen kind
+        → (IsTrue result ↔ CanGive row instruction.now.meaning) }
+{
+    !instruction.is_evex()
+        && instruction.opcode().is(layout.opcode)
+        && instruction.mem_size() == layout.mem_size
+        && operands_fit(
+            kind,
+            layout.index_bank,
+            layout.slots.as_slice(),
+            instruction,
+        )
+}
