@@ -71,7 +71,7 @@ no_entry : fails (0xC4 ∷ 0xE3 ∷ 0x78 ∷ 0x0F ∷ 0xC0 ∷ 0 ∷ []) ≡ Som
 unfolding walk entry_of has_key table
 no_entry = refl
 
-in_memory : fails (0xC5 ∷ 0xF8 ∷ 0x28 ∷ 0 ∷ []) ≡ Some (InvalidOperand, 4)
+in_memory : fails (0xC5 ∷ 0xF8 ∷ 0x28 ∷ 0 ∷ []) ≡ None
 unfolding walk walk_form entry_of has_key table steps form_row groups
 in_memory = refl
 

@@ -79,10 +79,10 @@ fn cases() -> [Case; 18] {
         refused(all, &[0xC4, 0xE0, 0x78, 0x58, 0xC0], InvalidOpcode),
         refused(all, &[0xC4, 0xE3, 0x78, 0x0F, 0xC0, 0x00], InvalidOpcode),
         refused(none, &[0xC5, 0xF8, 0x77], InvalidOpcode),
-        // Register 1 or 2 in vvvv, where no operand stands there, and an operand in memory.
+        // Register 1 or 2 in vvvv, where no operand stands there, and a displacement that isn't there.
         refused(all, &[0xC5, 0xE8, 0x77], InvalidOperand),
         refused(all, &[0xC5, 0xF0, 0x28], InvalidOperand),
-        refused(all, &[0xC5, 0xF8, 0x28, 0x00], InvalidOperand),
+        refused(all, &[0xC5, 0xF8, 0x28, 0x40], ExhaustedInput),
     ]
 }
 

@@ -186,8 +186,6 @@ const V0_L0_ADDR_IMM: FormRow = FormRow {
 };
 
 /// The row of each form, in the order of `Form`. The constant at the end of a row names its steps.
-// G_E_xyLmm, E_G_xyLmm and G_V_E_xyLmm end with V0_REG, V0_REG and REG as long as they take no operand E in memory: the
-// check of a register stands in the place of the address. With V0_ADDR, V0_ADDR and ADDR they do.
 #[rattlefmt::skip]
 pub static FORMS: [FormRow; 69] = [
     FormRow { form: Form::Nothing, before_modrm: One(V0), ..ALONE },
@@ -228,13 +226,13 @@ pub static FORMS: [FormRow; 69] = [
     FormRow { form: Form::G_E_ymm, slots: Two(G(Y), E(Y)), size: BYTES_32, ..V0_ADDR },
     FormRow { form: Form::G_ymm_E_ymm, slots: Two(G(Y), E(Y)), size: BYTES_32, ..V0_ADDR },
     FormRow { form: Form::G_ymm_E_xmm, slots: Two(G(Y), E(X)), size: WIDENED, ..V0_ADDR },
-    FormRow { form: Form::G_E_xyLmm, slots: Two(G(ByL), E(ByL)), size: MOVED, ..V0_REG },
-    FormRow { form: Form::E_G_xyLmm, slots: Two(E(ByL), G(ByL)), size: MOVED, ..V0_REG },
+    FormRow { form: Form::G_E_xyLmm, slots: Two(G(ByL), E(ByL)), size: MOVED, ..V0_ADDR },
+    FormRow { form: Form::E_G_xyLmm, slots: Two(E(ByL), G(ByL)), size: MOVED, ..V0_ADDR },
     FormRow { form: Form::G_Lmm_E_xmm, slots: Two(G(ByL), E(X)), size: BROADCAST, ..V0_ADDR },
     FormRow { form: Form::G_E_xyLmm_imm8, slots: Three(G(ByL), E(ByL), U8), size: BY_L, ..V0_ADDR_IMM },
     FormRow { form: Form::G_E_xmm_imm8, slots: Three(G(X), E(X), U8), size: BYTES_16, ..V0_L0_ADDR_IMM },
     FormRow { form: Form::G_E_ymm_imm8, slots: Three(G(Y), E(Y), U8), size: BYTES_32, ..V0_ADDR_IMM },
-    FormRow { form: Form::G_V_E_xyLmm, slots: Three(G(ByL), V(ByL), E(ByL)), size: BY_L, ..REG },
+    FormRow { form: Form::G_V_E_xyLmm, slots: Three(G(ByL), V(ByL), E(ByL)), size: BY_L, ..ADDR },
     FormRow { form: Form::G_V_E_ymm, slots: Three(G(Y), V(Y), E(Y)), size: BYTES_32, ..ADDR },
     FormRow { form: Form::G_V_ymm_E_xmm, slots: Three(G(Y), V(Y), E(X)), size: BYTES_16, ..ADDR },
     FormRow { form: Form::G_V_E_xmm, slots: Three(G(X), V(X), E(X)), size: SCALAR, ..ADDR },

@@ -260,17 +260,16 @@ static STEPS: [(&[Form], &[Check], bool, &[Check], bool, &[Check], bool); 17] = 
         &[],
         false,
     ),
-    // The check of a register stands in the place of the address here.
     (
         &[Form::G_E_xyLmm, Form::E_G_xyLmm],
         &[V0],
         true,
-        &[Reg],
-        false,
+        &[],
+        true,
         &[],
         false,
     ),
-    (&[Form::G_V_E_xyLmm], &[], true, &[Reg], false, &[], false),
+    (&[Form::G_V_E_xyLmm], &[], true, &[], true, &[], false),
     (&[Form::G_E_xmm_imm8], &[V0, L0], true, &[], true, &[], true),
     (
         &[

@@ -5,7 +5,7 @@ use Rattle.hex.specs.Hex.{encode_with}
 use Rattle.x86_opcode.specs.Condition.{opcode_condition}
 use Rattle.x86_opcode.specs.Name.{opcode_name}
 use Rattle.x86_opcode.specs.Number.{opcode_number, same_opcode}
-use Rattle.x86_operand.specs.Same.{same_meaning, same_operands, same_operand, same_register, same_bank}
+use Rattle.x86_operand.specs.Same.{same_meaning, same_operands, same_operand, same_register, same_bank, same_index, same_address}
 use Rattle.x86_settings.specs.Bits.{all_bits, no_bits}
 use Rattle.x86_permit.specs.Permission.{permits}
 use Rattle.x86_address.specs.Shortest.{shortest}
@@ -56,9 +56,9 @@ first_byte : result_line all_bits (0x33 ∷ 0xC0 ∷ []) ≡ codes "error Outsid
 unfolding result_line digits encode_with walk walk_form entry_of has_key table steps form_row groups has_groups opcode_of has_imm permits opcode_condition opcode_name canon rows choices exists standard candidate shortest slots index_bank gathers size_of sizes v_rule gives same_meaning same_operands same_operand same_register same_bank same_opcode opcode_number
 first_byte = refl
 
--- no entry takes an operand in memory
-in_memory : result_line all_bits (0xC5 ∷ 0xF8 ∷ 0x28 ∷ 0x00 ∷ []) ≡ codes "error InvalidOperand\n"
-unfolding result_line digits encode_with walk walk_form entry_of has_key table steps form_row groups has_groups opcode_of has_imm permits opcode_condition opcode_name canon rows choices exists standard candidate shortest slots index_bank gathers size_of sizes v_rule gives same_meaning same_operands same_operand same_register same_bank same_opcode opcode_number
+-- an operand in memory
+in_memory : result_line all_bits (0xC5 ∷ 0xF8 ∷ 0x28 ∷ 0x00 ∷ []) ≡ codes "4 VMOVAPS x0 mq0/-/0 16 c5f82800\n"
+unfolding result_line digits encode_with walk walk_form entry_of has_key table steps form_row groups has_groups opcode_of has_imm permits opcode_condition opcode_name canon rows choices exists standard candidate shortest slots index_bank gathers size_of sizes v_rule gives same_meaning same_operands same_operand same_register same_bank same_index same_address same_opcode opcode_number
 in_memory = refl
 
 -- the settings come last

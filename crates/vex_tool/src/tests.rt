@@ -326,3 +326,58 @@ fn a_sweep_writes_each_instruction_and_how_it_ends(rt: HostRuntime) {
     assert_eq!(rt; status.code(), 0);
     assert_eq!(rt; sink.written(), text);
 }
+
+/// Lines with operands in memory: a displacement that isn't needed or must stand, SIB without an index, bits that play
+/// no part, the ends of a displacement of 8 bits, base 12, and no base.
+const MEMORY: [(&[u8], &[u8]); 13] = [
+    (
+        b"C5 FC 28 80 00 00 00 00",
+        b"8 VMOVAPS y0 mq0/-/0 32 c5fc2800\n",
+    ),
+    (b"C5 FC 28 45 00", b"5 VMOVAPS y0 mq5/-/0 32 c5fc284500\n"),
+    (b"C5 F8 28 04 20", b"5 VMOVAPS x0 mq0/-/0 16 c5f82800\n"),
+    (
+        b"C4 C1 78 28 05 10 00 00 00",
+        b"9 VMOVAPS x0 mrip/-/16 16 c5f8280510000000\n",
+    ),
+    (
+        b"C5 F8 28 40 80",
+        b"5 VMOVAPS x0 mq0/-/-128 16 c5f8284080\n",
+    ),
+    (
+        b"C5 F8 28 80 80 FF FF FF",
+        b"8 VMOVAPS x0 mq0/-/-128 16 c5f8284080\n",
+    ),
+    (
+        b"C5 F8 28 80 80 00 00 00",
+        b"8 VMOVAPS x0 mq0/-/128 16 c5f8288080000000\n",
+    ),
+    (
+        b"C4 C1 78 28 04 24",
+        b"6 VMOVAPS x0 mq12/-/0 16 c4c178280424\n",
+    ),
+    (
+        b"C5 F8 28 04 25 00 10 00 00",
+        b"9 VMOVAPS x0 m-/-/4096 16 c5f828042500100000\n",
+    ),
+    (
+        b"C4 C1 78 28 04 25 00 10 00 00",
+        b"10 VMOVAPS x0 m-/-/4096 16 c5f828042500100000\n",
+    ),
+    (b"C5 F8 28 04 E4", b"5 VMOVAPS x0 mq4/-/0 16 c5f8280424\n"),
+    (b"C4 A1 78 28 C1", b"5 VMOVAPS x0 x1 0 c5f828c1\n"),
+    (b"C4 E1 F0 58 C2", b"5 VADDPS x0 x1 x2 0 c5f058c2\n"),
+];
+
+#[test]
+fn operands_in_memory_are_written_shortest(rt: HostRuntime) {
+    let words = words_of(&["recode", "default"]);
+    for (line, text) in MEMORY {
+        let mut source = MemSource::new(line, 4096, &[]);
+        let mut room = [0u8; 80];
+        let mut sink = MemSink::new(&mut room, &[]);
+        let status = run(rt.alloc(), &words, &mut source, &mut sink);
+        assert_eq!(rt; status.code(), 0);
+        assert_eq!(rt; sink.written(), text);
+    }
+}
