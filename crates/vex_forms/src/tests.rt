@@ -436,12 +436,16 @@ fn agrees(form: Form, line: Option<Line>, opcode: Opcode, w: bool, l: bool, memo
 // Whether the rows of a form at an L and a kind of the operand E are as they are listed, for these opcodes.
 fn all_agree(form: Form, sizes: Sizes, l: bool, memory: bool) -> bool {
     let line = line_of(form, l, memory);
-    sizes.iter().all(|(_, _, opcodes)| {
-        opcodes.iter().all(|opcode| {
-            agrees(form, line, *opcode, false, l, memory)
-                && agrees(form, line, *opcode, true, l, memory)
-        })
-    })
+    for (_, _, opcodes) in sizes {
+        for opcode in *opcodes {
+            if !agrees(form, line, *opcode, false, l, memory)
+                || !agrees(form, line, *opcode, true, l, memory)
+            {
+                return false;
+            }
+        }
+    }
+    true
 }
 
 #[test]
