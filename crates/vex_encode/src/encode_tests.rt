@@ -6,7 +6,6 @@ use crate::{Spelling, encode_shortest};
 use std::marker::Brand;
 use std::process::Abort;
 use std::sync::ledger::{Blank, Ledger};
-use std::test::Fail;
 use step_counter::Steps;
 use x86_operand::RegisterBank::{Q, RIP, X, Y, Z};
 use x86_operand::{
@@ -100,9 +99,9 @@ fn instruction_of(case: &Case) -> Option<Instruction> {
 }
 
 #[test]
-fn meanings_have_their_canonical_bytes_or_none(rt: HostRuntime) -> Result<(), Fail> {
+fn meanings_have_their_canonical_bytes_or_none(rt: HostRuntime) {
     for case in cases() {
-        let instruction = instruction_of(&case)?;
+        let instruction = instruction_of(&case).expect(&rt, "there are such registers");
         match (encode(&instruction), case.spelling) {
             (Ok(spelling), Some(wanted)) => {
                 assert_eq!(rt; spelling.as_slice(), wanted, "{instruction:?}");
@@ -117,65 +116,48 @@ fn meanings_have_their_canonical_bytes_or_none(rt: HostRuntime) -> Result<(), Fa
             }
         }
     }
-    Ok(())
 }
 
-/// `VMOVAPS` of the register x0 and an address.
-fn move_from(address: Address, size: u8) -> Option<Instruction> {
+/// Bases and indices, by bank and number, the index with its scale, that no bytes name together.
+#[rattlefmt::skip]
+fn addresses() -> [(Option<(RegisterBank, u8)>, (RegisterBank, u8), u8); 4] {
+    [
+        (Some((Q, 4)), (Q, 4), 1),
+        (Some((RIP, 0)), (Q, 0), 1),
+        (None, (Y, 1), 1),
+        (None, (Q, 0), 3),
+    ]
+}
+
+/// `VMOVAPS` of the register x0 and the address of these registers.
+fn move_from(
+    base: Option<(RegisterBank, u8)>,
+    index: (RegisterBank, u8),
+    scale: u8,
+) -> Option<Instruction> {
+    let base = match base {
+        Some((bank, num)) => Some(RegSpec::of(bank, num)?),
+        None => None,
+    };
+    let reg = RegSpec::of(index.0, index.1)?;
+    let address = Address {
+        base,
+        index: Some(Index { reg, scale }),
+        disp: 0,
+    };
     let operands = [
         Operand::Register {
             reg: RegSpec::of(X, 0)?,
         },
         Operand::Memory { address },
     ];
-    Instruction::from_parts(
-        false,
-        Opcode::VMOVAPS,
-        &operands,
-        MemoryAccessSize::of(size),
-    )
+    Instruction::from_parts(false, Opcode::VMOVAPS, &operands, MemoryAccessSize::of(16))
 }
 
 #[test]
-fn addresses_that_no_bytes_name_have_no_spelling(rt: HostRuntime) -> Result<(), Fail> {
-    let general = RegSpec::of(Q, 4);
-    let vector = RegSpec::of(Y, 1)?;
-    let pointer = RegSpec::of(RIP, 0);
-    let index = Index {
-        reg: general?,
-        scale: 1,
-    };
-    let indices = [
-        (general, index),
-        (
-            pointer,
-            Index {
-                reg: RegSpec::rax(),
-                scale: 1,
-            },
-        ),
-        (
-            None,
-            Index {
-                reg: vector,
-                scale: 1,
-            },
-        ),
-        (
-            None,
-            Index {
-                reg: RegSpec::rax(),
-                scale: 3,
-            },
-        ),
-    ];
-    for (base, index) in indices {
-        let address = Address {
-            base,
-            index: Some(index),
-            disp: 0,
-        };
-        let instruction = move_from(address, 16)?;
+fn addresses_that_no_bytes_name_have_no_spelling(rt: HostRuntime) {
+    for (base, index, scale) in addresses() {
+        let instruction = move_from(base, index, scale).expect(&rt, "there are such registers");
         let outcome = encode(&instruction);
         assert_eq!(rt;
             outcome.err(),
@@ -183,5 +165,4 @@ fn addresses_that_no_bytes_name_have_no_spelling(rt: HostRuntime) -> Result<(), 
             "{instruction:?}"
         );
     }
-    Ok(())
 }
