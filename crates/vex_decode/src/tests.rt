@@ -23,107 +23,85 @@ fn other() -> Instruction {
     Instruction::of(Opcode::VADDPS, true)
 }
 
-fn register(number: u8) -> InnerDescription
-    requires { number < 16 }
-{
-    RegisterNumber(number, RegSpec::of(RegisterBank::X, number).unwrap())
+/// What the notes say of a field vvvv that names no other register.
+fn register_0() -> InnerDescription {
+    RegisterNumber(0, RegSpec::of(RegisterBank::X, 0).unwrap())
+}
+
+/// The length of the instruction, or the error.
+fn length(answer: &Result<Instruction, DecodeError>) -> Result<u8, DecodeError> {
+    match answer {
+        Ok(instruction) => Ok(instruction.len()),
+        Err(error) => Err(*error),
+    }
 }
 
 #[test]
 fn a_reader_is_left_after_the_bytes_taken(rt: HostRuntime) {
     let decoder = InstDecoder::default();
     let mut words = U8Reader::new(&[0xC5, 0xF8, 0x77, 0xFF]);
-    let decoded = decoder.decode(&mut words);
-    assert_eq!(rt;
-        decoded.map(|instruction| (instruction.opcode(), instruction.len())),
-        Ok((Opcode::VZEROUPPER, 3))
-    );
+    assert_eq!(rt; length(&decoder.decode(&mut words)), Ok(3));
     assert_eq!(rt; (words.offset(), words.total_offset()), (3, 3));
-    assert_eq!(rt;
-        decoder
-            .decode(&mut words)
-            .map(|instruction| instruction.len()),
-        Err(Outside)
-    );
+    assert_eq!(rt; length(&decoder.decode(&mut words)), Err(Outside));
     assert_eq!(rt; (words.offset(), words.total_offset()), (1, 4));
+}
 
+#[test]
+fn a_refused_instruction_is_the_default_one(rt: HostRuntime) {
     let mut instruction = other();
     let mut words = U8Reader::new(&[0xC5, 0xF0, 0x28, 0xC1]);
-    assert_eq!(rt;
-        decoder.decode_into(&mut instruction, &mut words),
-        Err(InvalidOperand)
-    );
+    let answer = InstDecoder::default().decode_into(&mut instruction, &mut words);
+    assert_eq!(rt; answer, Err(InvalidOperand));
     assert_eq!(rt; instruction, Instruction::default());
     assert_eq!(rt; words.total_offset(), 3);
 }
 
-#[test]
-fn each_call_answers_the_same(rt: HostRuntime) {
-    let cases: [(&[u8], Result<u8, DecodeError>); 9] = [
-        (&VZEROUPPER, Ok(3)),
-        (&VMOVAPS, Ok(5)),
-        (&[], Err(ExhaustedInput)),
-        (&[0x33, 0xC0], Err(Outside)),
-        (&[0xC4, 0x00], Err(ExhaustedInput)),
-        (&[0xC4, 0xE0, 0x78, 0x58, 0xC0], Err(InvalidOpcode)),
-        (&[0xC4, 0xE3, 0x78, 0x0F, 0xC0, 0x00], Err(InvalidOpcode)),
-        (&[0xC5, 0xE8, 0x77], Err(InvalidOperand)),
-        (&[0xC5, 0xF8], Err(ExhaustedInput)),
-    ];
-    let decoder = InstDecoder::default();
-    for (bytes, answer) in cases {
-        let expected = answer.map(|_| ());
-        let len = answer.unwrap_or(0);
-        let mut instruction = other();
-        assert_eq!(rt;
-            decoder.decode_slice(bytes).map(|decoded| decoded.len()),
-            answer
-        );
-        assert_eq!(rt;
-            decoder
-                .decode(&mut FailReader::new(bytes, &[]))
-                .map(|decoded| decoded.len()),
-            answer
-        );
-        assert_eq!(rt;
-            decoder.decode_into(&mut instruction, &mut FailReader::new(bytes, &[])),
-            expected
-        );
-        assert_eq!(rt; instruction.len(), len);
-        let mut instruction = other();
-        assert_eq!(rt;
-            decoder.decode_with_annotation(
-                &mut instruction,
-                &mut U8Reader::new(bytes),
-                &mut NullSink
-            ),
-            expected
-        );
-        assert_eq!(rt; instruction.len(), len);
-    }
+/// The four calls answer the same, an instruction of this length or this error.
+fn all_answer(
+    rt: &impl Abort,
+    decoder: &InstDecoder,
+    bytes: &[u8],
+    answer: Result<u8, DecodeError>,
+) {
+    assert_eq!(rt; length(&decoder.decode_slice(bytes)), answer);
+    assert_eq!(rt;
+        length(&decoder.decode(&mut FailReader::new(bytes, &[]))),
+        answer
+    );
+
+    let mut instruction = other();
+    let into = decoder.decode_into(&mut instruction, &mut FailReader::new(bytes, &[]));
+    assert_eq!(rt; into.is_ok(), answer.is_ok());
+    assert_eq!(rt; instruction.len(), answer.unwrap_or(0));
+
+    let mut instruction = other();
+    let mut words = U8Reader::new(bytes);
+    let noted = decoder.decode_with_annotation(&mut instruction, &mut words, &mut NullSink);
+    assert_eq!(rt; noted, into);
+    assert_eq!(rt; instruction.len(), answer.unwrap_or(0));
 }
 
 #[test]
-fn the_settings_are_asked_last(rt: HostRuntime) {
-    let decoder = InstDecoder::minimal();
-    assert_eq!(rt;
-        decoder
-            .decode_slice(&VZEROUPPER)
-            .map(|decoded| decoded.len()),
-        Err(InvalidOpcode)
+fn each_call_answers_the_same(rt: HostRuntime) {
+    let all = InstDecoder::default();
+    all_answer(&rt, &all, &VZEROUPPER, Ok(3));
+    all_answer(&rt, &all, &VMOVAPS, Ok(5));
+    all_answer(&rt, &all, &[], Err(ExhaustedInput));
+    all_answer(&rt, &all, &[0x33, 0xC0], Err(Outside));
+    all_answer(&rt, &all, &[0xC4, 0x00], Err(ExhaustedInput));
+    all_answer(
+        &rt,
+        &all,
+        &[0xC4, 0xE0, 0x78, 0x58, 0xC0],
+        Err(InvalidOpcode),
     );
-    assert_eq!(rt;
-        decoder
-            .decode_slice(&[0xC5, 0xF8])
-            .map(|decoded| decoded.len()),
-        Err(ExhaustedInput)
-    );
-    assert_eq!(rt;
-        decoder
-            .decode_slice(&[0xC5, 0xE8, 0x77])
-            .map(|decoded| decoded.len()),
-        Err(InvalidOperand)
-    );
+    all_answer(&rt, &all, &[0xC5, 0xE8, 0x77], Err(InvalidOperand));
+
+    // The settings are asked last.
+    let none = InstDecoder::minimal();
+    all_answer(&rt, &none, &VZEROUPPER, Err(InvalidOpcode));
+    all_answer(&rt, &none, &[0xC5, 0xF8], Err(ExhaustedInput));
+    all_answer(&rt, &none, &[0xC5, 0xE8, 0x77], Err(InvalidOperand));
 }
 
 /// The reader refuses at each call in turn.
@@ -154,8 +132,9 @@ fn has_notes(rt: &impl Abort, bytes: &[u8], notes: &[(u32, u32, u32, InnerDescri
     let mut words = U8Reader::new(bytes);
     let _ = InstDecoder::default().decode_with_annotation(&mut instruction, &mut words, &mut sink);
     assert_eq!(rt; sink.len(), notes.len());
-    for (i, (start, end, id, what)) in notes.iter().enumerate() {
-        assert_eq!(rt; sink.get(i), Some(&(*start, *end, what.with_id(*id))));
+    for (i, note) in notes.iter().enumerate() {
+        let expected = (note.0, note.1, note.3.with_id(note.2));
+        assert_eq!(rt; sink.get(i), Some(&expected));
     }
 }
 
@@ -166,7 +145,7 @@ fn the_notes_are_those_on_the_bytes_taken(rt: HostRuntime) {
         &VZEROUPPER,
         &[
             (8, 9, 8, Misc(Note::P0)),
-            (11, 14, 10, register(0)),
+            (11, 14, 10, register_0()),
             (10, 10, 9, Misc(Note::R0)),
             (15, 15, 9, Misc(Note::W1)),
             (23, 23, 23, Boundary(Note::PrefixEnd)),
@@ -180,7 +159,7 @@ fn the_notes_are_those_on_the_bytes_taken(rt: HostRuntime) {
         &[
             (16, 17, 8, Misc(Note::P0)),
             (8, 12, 8, Misc(Note::M1)),
-            (19, 22, 10, register(0)),
+            (19, 22, 10, register_0()),
             (15, 15, 9, Misc(Note::R1)),
             (14, 14, 9, Misc(Note::X1)),
             (13, 13, 9, Misc(Note::B0)),
