@@ -29,7 +29,7 @@ fn five_lines(alloc: Global) -> Result<Vec<u8>, AllocError> {
     for _ in 0..8193 {
         input.push(b'c')?;
     }
-    input.extend_from_slice(b"\nC4E27D58C1")?;
+    input.extend_from_slice(b"\nC4E2FD58C1")?;
     Ok(input)
 }
 
