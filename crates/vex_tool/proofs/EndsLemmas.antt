@@ -1,9 +1,9 @@
 -- Facts on what the ends of a run tell.
-use Rattle.std.proofs.Common.{◌≡◌, ℕ, List, [], ◌++◌, length, take, drop, Option, Some, None, Result, Ok, Err, sym, ap, refl, ◌∙◌}
+use Rattle.std.proofs.Common.{◌≡◌, ℕ, List, [], ◌++◌, length, take, drop, Option, Some, None, Result, Ok, Err, sym, ap, subst, refl, ◌∙◌}
 use Rattle.std.proofs.lemmas.List.{append-nil, append_assoc, nil_from_length, take-append-drop}
 use Rattle.std.specs.Io.KnownBytes.{Appends, Consumes, Keeps}
 use Rattle.vex_tool.specs.declared.halt.Halt.{Halt}
-use Rattle.vex_tool.specs.declared.halt.Halt.TheVariants.{WriteFault, NoMemory}
+use Rattle.vex_tool.specs.declared.halt.Halt.TheVariants.{WriteFault}
 use Rattle.vex_tool.specs.Ends.{Answers, AppendsFront, RoseOrIsLast, WhereTaken, Writes}
 
 -- ---- what is written
@@ -91,6 +91,18 @@ pub Writes-fault : {T E : Type 0} (result : Result T E) (e : E) (old new : Optio
     → result ≡ Err e → AppendsFront old new text → RoseOrIsLast before after → Writes result old new before after text
 Writes-fault result e old new before after text is front cause =
     rw is (record { appends = tt; quiet = tt; front = front; cause = cause })
+
+-- a text was written, and then another was or failed
+pub Writes-then : {T E : Type 0} (result : Result T E) (old mid new : Option (List ℕ)) (before between after : ℕ) (a b : List ℕ)
+    → Appends old mid a → between ≡ before → Writes result mid new between after b → Writes result old new before after (a ++ b)
+Writes-then (Ok x) old mid new before between after a b first quiet then =
+    record { appends = Appends-then old mid new a b first then.appends; quiet = then.quiet ∙ quiet; front = tt; cause = tt }
+Writes-then (Err e) old mid new before between after a b first quiet then = record {
+  appends = tt;
+  quiet = tt;
+  front = AppendsFront-then old mid new a b first then.front;
+  cause = subst (λ n. RoseOrIsLast n after) quiet then.cause;
+}
 
 -- ---- texts written where memory may lack
 

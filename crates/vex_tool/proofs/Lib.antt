@@ -2,7 +2,9 @@ pub mod EndsLemmas
 pub mod ReportLemmas
 pub mod LineMachineLemmas
 pub mod FeedLemmas
+pub mod WrittenLines
 pub mod SweepLinesLemmas
+pub mod NoteLinesLemmas
 pub mod RunLemmas
 pub mod RunClauses
 pub mod Texts

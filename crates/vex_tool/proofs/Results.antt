@@ -1,17 +1,12 @@
 -- The result line of what a decode answers.
-use Rattle.std.specs.Prelude.{◌≡◌, ℕ, ◌≤◌, Bool, List, [], length, take, drop, Some, None, Ok, unwrap_or}
+use Rattle.std.specs.Prelude.{◌≡◌, ℕ, ◌≤◌, List, [], length, take, drop, Ok, unwrap_or}
 use Rattle.std.proofs.Common.{arith, ap, sym, ◌∙◌, take-append-drop}
 use Rattle.std.proofs.lemmas.List.{length-drop}
-use Rattle.x86_operand.specs.declared.error.DecodeError.{DecodeError}
-use Rattle.x86_operand.specs.Errors.{decode_error_name}
-use Rattle.x86_operand.specs.Meaning.{Meaning}
-use Rattle.vex_decode.specs.Spelling.{meant, Spells}
+use Rattle.vex_decode.specs.Spelling.{meant}
 use Rattle.vex_decode.specs.Walk.{walk}
 use Rattle.vex_forms.specs.FormWalk.{taken}
-use Rattle.vex_decode.specs.Blocked.{blocked}
 use Rattle.vex_decode.proofs.Spells.{walk-spelling}
 use Rattle.vex_encode.specs.Canon.{canon}
-use Rattle.vex_tool.specs.ErrorLine.{error_line}
 use Rattle.vex_tool.specs.Laws.{LineOfSpelling, LineOfError}
 use Rattle.vex_tool.specs.ResultLine.{instruction_line, line_of_reading, line_unless_blocked, result_line}
 

@@ -1,4 +1,4 @@
--- The texts of operands, one after another, and how long an opcode's name is.
+-- The texts of operands, one after another, and how long a name and a note are.
 use Rattle.std.specs.Prelude.{◌≡◌, refl, ℕ, ◌+◌, ◌<◌, ◌≤◌, nat_le, true, List, [], ◌∷◌, ◌++◌, length, take, codes, slice_index_or}
 use Rattle.std.proofs.Common.{arith, ap, sym, ◌∙◌, append_assoc}
 use Rattle.std.proofs.lemmas.List.{take_more}
@@ -11,6 +11,9 @@ use Rattle.x86_opcode.specs.declared.FloatOpcode.TheVariants as float
 use Rattle.x86_opcode.specs.declared.FusedOpcode.TheVariants as fused
 use Rattle.x86_opcode.specs.declared.MarkedOpcode.TheVariants as marked
 use Rattle.x86_opcode.specs.Name.{opcode_name}
+use Rattle.x86_operand.specs.declared.note.Note.{Note}
+use Rattle.x86_operand.specs.declared.note.Note.TheVariants.{P0}
+use Rattle.x86_operand.specs.Note.{note_text}
 use Rattle.x86_operand.specs.Meaning.{OperandMeaning, nothing}
 use Rattle.vex_tool.specs.ResultLine.{operand_text, operands_text}
 
@@ -42,7 +45,16 @@ name_test (Fused fused.VFMADD132PS) = refl
 name_test (Marked marked.VEXP2PD) = refl
 name_test _ = refl
 
+below : (most n : ℕ) → nat_le n most ≡ true → n ≤ most
+below most n h = grind (arith, nat_tests)
+
 pub short_name : (o : Opcode) → length (opcode_name o) ≤ 32
-short_name o = below (length (opcode_name o)) (name_test o) where
-  below : (n : ℕ) → nat_le n 32 ≡ true → n ≤ 32
-  below n h = grind (arith, nat_tests)
+short_name o = below 32 (length (opcode_name o)) (name_test o)
+
+-- no note's text is longer than 64 bytes
+note_test : (n : Note) → nat_le (length (note_text n)) 64 ≡ true
+note_test P0 = refl
+note_test _ = refl
+
+pub short_note : (n : Note) → length (note_text n) ≤ 64
+short_note n = below 64 (length (note_text n)) (note_test n)

@@ -8,6 +8,7 @@ pub mod ErrorLine
 pub mod ResultLine
 pub mod Laws
 pub mod SweepLines
+pub mod NoteLines
 pub mod Report
 pub mod LineMachine
 pub mod Run

@@ -4,13 +4,14 @@ use Rattle.hex.specs.Hex.{decode_of}
 use Rattle.hex.specs.declared.error.FromHexError.{FromHexError}
 use Rattle.vex_tool.specs.declared.command.Command.{Command}
 use Rattle.vex_encode.specs.Sweep.{swept}
-use Rattle.vex_tool.specs.declared.command.Command.TheVariants.{Recode, Sweep}
+use Rattle.vex_tool.specs.declared.command.Command.TheVariants.{Recode, Sweep, Notes}
 use Rattle.vex_tool.specs.declared.report.LineError.{LineError}
 use Rattle.vex_tool.specs.declared.report.LineError.TheVariants.{LongLine, BadHex}
 use Rattle.vex_tool.specs.ErrorLine.{error_line}
 use Rattle.vex_tool.specs.Lines.{lines, AnsweredBefore}
 use Rattle.vex_tool.specs.ResultLine.{result_line}
 use Rattle.vex_tool.specs.SweepLines.{sweep_lines}
+use Rattle.vex_tool.specs.NoteLines.{note_lines}
 
 -- the name of an error
 abbrev pub line_error_name : LineError → List ℕ
@@ -39,6 +40,7 @@ abbrev pub code_report : Command → Result (List ℕ) LineError → List ℕ
 code_report command (Err e) = error_line (line_error_name e)
 code_report (Recode settings) (Ok bytes) = result_line settings bytes
 code_report (Sweep settings) (Ok bytes) = sweep_lines (swept settings bytes)
+code_report (Notes settings) (Ok bytes) = note_lines settings bytes
 
 -- what is written for a line
 unfoldable pub report : Command → List ℕ → List ℕ
@@ -52,11 +54,13 @@ output command bytes = flat_map (report command) (lines bytes)
 abbrev pub MayLackMemory : Command → List ℕ → Type 0
 MayLackMemory (Recode settings) line = ⊥
 MayLackMemory (Sweep settings) line = IsOk (code line)
+MayLackMemory (Notes settings) line = ⊥
 
 -- whether a command takes memory
 abbrev pub takes_memory : Command → Bool
 takes_memory (Recode settings) = false
 takes_memory (Sweep settings) = true
+takes_memory (Notes settings) = false
 
 -- of the lines of these bytes, those before one that there was no memory for were answered
 abbrev pub LackedMemory : Command → List ℕ → Option (List ℕ) → Option (List ℕ) → Type 0

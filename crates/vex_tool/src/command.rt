@@ -14,11 +14,13 @@ pub enum Command {
     Recode(InstDecoder),
     /// Sweep the bytes of each line, under these settings.
     Sweep(InstDecoder),
+    /// Write the notes on the bytes of each line, and then a result line, under these settings.
+    Notes(InstDecoder),
 }
 
 impl Command {
-    /// The command that the words ask for, `None` where they aren't `recode` or `sweep` and the
-    /// name of a profile. Whether a word was refused plays no part.
+    /// The command that the words ask for, `None` where they aren't `recode`, `sweep` or
+    /// `notes` and the name of a profile. Whether a word was refused plays no part.
     pub fn of(words: &Words) -> Option<Command>
         ensures { result ≡ command words.now.0 }
     {
@@ -35,6 +37,7 @@ impl Command {
         match verb {
             "recode" => profile(name).map(Command::Recode),
             "sweep" => profile(name).map(Command::Sweep),
+            "notes" => profile(name).map(Command::Notes),
             _ => None,
         }
     }

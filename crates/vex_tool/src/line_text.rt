@@ -9,12 +9,17 @@ ghost use Rattle.x86_operand.specs.Meaning.{operand_meaning, memory};
 ghost use Rattle.vex_encode.specs.Sweep.{item_seen};
 ghost use Rattle.vex_tool.specs.ErrorLine.{error_line};
 ghost use Rattle.vex_tool.specs.ResultLine.{register_text, base_text, index_text, operand_text, operands_text, instruction_line};
+ghost use Rattle.x86_operand.specs.Note.{note_text};
 ghost use Rattle.vex_tool.specs.SweepLines.{item_line, end_line};
+ghost use Rattle.vex_tool.specs.NoteLines.{description_text, note_line};
 
 use arrayvec::ArrayVec;
 use itoa::Buffer;
 use vex_encode::{Spelling, SweepEnd, SweepItem};
-use x86_operand::{Address, Index, Instruction, Opcode, Operand, RegSpec, RegisterBank};
+use x86_operand::{
+    Address, FieldDescription, Index, InnerDescription, Instruction, Note, Opcode, Operand,
+    RegSpec, RegisterBank,
+};
 
 /// How many bytes a line of the output has, at most.
 pub const MAX_TEXT: usize = 256;
@@ -249,6 +254,63 @@ pub fn end_text(end: &SweepEnd) -> LineText
             push_all(&mut text, error.name().as_bytes());
         }
     }
+    push_all(&mut text, b"\n");
+    text
+}
+
+/// Appends a number of a note in decimal.
+fn push_bits(text: &mut LineText, number: u32)
+    requires { array_vec_len text.old + 10 ≤ MAX_TEXT }
+    ensures written { text.new.items ≡ text.old.items ++ decimal number }
+    ensures short { array_vec_len text.new ≤ array_vec_len text.old + 10 }
+{
+    let mut buffer = Buffer::new();
+    push_all(text, buffer.format(number).as_bytes());
+}
+
+/// Appends the text of a note.
+fn push_note(text: &mut LineText, note: Note)
+    requires { array_vec_len text.old + 64 ≤ MAX_TEXT }
+    ensures written { text.new.items ≡ text.old.items ++ note_text note }
+    ensures short { array_vec_len text.new ≤ array_vec_len text.old + 64 }
+{
+    push_all(text, note.text().as_bytes());
+}
+
+/// Appends what stands in a field.
+fn push_description(text: &mut LineText, desc: InnerDescription)
+    requires { array_vec_len text.old + 64 ≤ MAX_TEXT }
+    ensures written { text.new.items ≡ text.old.items ++ description_text desc }
+    ensures short { array_vec_len text.new ≤ array_vec_len text.old + 64 }
+{
+    match desc {
+        InnerDescription::Misc(note) | InnerDescription::Boundary(note) => push_note(text, note),
+        InnerDescription::RegisterNumber(number, reg) => {
+            push_all(text, b"vvvv ");
+            push_number(text, number);
+            push_all(text, b" ");
+            push_register(text, reg);
+        }
+        InnerDescription::Opcode(opcode) => {
+            push_all(text, b"opcode ");
+            push_name(text, opcode);
+        }
+    }
+}
+
+/// The line of a note: its first bit, its last bit, its number and what stands there.
+pub fn note_text_line(note: &(u32, u32, FieldDescription)) -> LineText
+    ensures { result.items ≡ note_line note.now }
+{
+    let mut text = LineText::new();
+    push_all(&mut text, b"note ");
+    push_bits(&mut text, note.0);
+    push_all(&mut text, b" ");
+    push_bits(&mut text, note.1);
+    push_all(&mut text, b" ");
+    push_bits(&mut text, note.2.id);
+    push_all(&mut text, b" ");
+    push_description(&mut text, note.2.desc);
     push_all(&mut text, b"\n");
     text
 }

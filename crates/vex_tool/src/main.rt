@@ -31,6 +31,7 @@ mod line_buffer;
 mod line_text;
 // For callers of `run` over memory; here the tests alone.
 mod memory_ends;
+mod note_lines;
 mod report;
 mod result_line;
 mod status;
@@ -42,8 +43,8 @@ mod words;
 
 /// Runs the command that the words ask for, over all that the source has left.
 ///
-/// For each line of the input `recode P` writes one line, and `sweep P` one for each instruction and one for the end. The
-/// status is `Usage` where the words are no command or one was refused. Else it is that of the first of these events: a
+/// For each line of the input `recode P` writes one line, `sweep P` one for each instruction and one for the end, and
+/// `notes P` one for each note and then that of `recode P`. The status is `Usage` where the words are no command or one was refused. Else it is that of the first of these events: a
 /// read failed, a write failed, there was no memory for the sweep of a line, the source gave a byte after 2^26 bytes, or
 /// all is written and the input has ended. Only `sweep P` takes memory.
 pub fn run<S: Source, K: Sink>(alloc: Global, words: &Words, source: &mut S, sink: &mut K) -> Status

@@ -9,6 +9,7 @@ use crate::command::Command;
 use crate::ends::{Failed, Sink};
 use crate::halt::Halt;
 use crate::line_text::error_text;
+use crate::note_lines::write_notes;
 use crate::result_line::write_result_line;
 use crate::sweep_lines::write_sweep;
 use arrayvec::ArrayVec;
@@ -98,6 +99,10 @@ fn write_code_report<K: Sink>(
             Ok(())
         }
         Command::Sweep(settings) => write_sweep(alloc, settings, bytes, sink),
+        Command::Notes(settings) => {
+            write_notes(settings, bytes, sink)?;
+            Ok(())
+        }
     }
 }
 

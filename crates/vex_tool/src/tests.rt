@@ -198,12 +198,14 @@ fn the_limit_is_two_to_the_26(rt: HostRuntime) {
 #[test]
 fn words_that_are_no_command(rt: HostRuntime) {
     let long = "xxxxxxxxxxxxxxxxxxxxxxxxxxxxxxxxxxxxxxxxxxxxxxxxxxxxxxxxxxxxxxxxx";
-    let lists: [&[&str]; 10] = [
+    let lists: [&[&str]; 12] = [
         &[],
         &["recode"],
         &["recode", "zen6"],
         &["sweep"],
         &["sweep", "zen6"],
+        &["notes"],
+        &["notes", "zen6"],
         &["Recode", "default"],
         &["recode", "Default"],
         &["recode", "default", ""],
@@ -325,6 +327,33 @@ fn a_sweep_writes_each_instruction_and_how_it_ends(rt: HostRuntime) {
     let status = run(rt.alloc(), &words, &mut source, &mut sink);
     assert_eq!(rt; status.code(), 0);
     assert_eq!(rt; sink.written(), text);
+}
+
+#[test]
+fn notes_say_what_the_bytes_taken_hold(rt: HostRuntime) {
+    let words = words_of(&["notes", "default"]);
+    let whole = b"note 8 9 8 vex.p indicates no opcode prefix\nnote 11 14 10 vvvv 0 x0\n\
+        note 10 10 9 vex.r extends extends rrr by 0b1000\nnote 15 15 9 vex.w selects 64-bit operand size\n\
+        note 23 23 23 vex prefix ends/opcode begins\nnote 16 23 16 opcode VZEROUPPER\n\
+        note 23 23 23 vex opcode ends/operands begin\n3 VZEROUPPER 0 c5f877\n"
+        .as_slice();
+    let no_map = b"note 16 17 8 vex.p indicates no opcode prefix\n\
+        note 8 12 8 vex.mmmmm indicates illegal opcode escape and is invalid\nerror InvalidOpcode\n"
+        .as_slice();
+    for (line, text) in [
+        (b"C5 F8 77 C5".as_slice(), whole),
+        (b"C4 E0 78".as_slice(), no_map),
+        (b"C4 E0".as_slice(), b"error ExhaustedInput\n".as_slice()),
+        (b"33".as_slice(), b"error Outside\n".as_slice()),
+        (b"c5f".as_slice(), b"error BadHex\n".as_slice()),
+    ] {
+        let mut source = MemSource::new(line, 4096, &[]);
+        let mut room = [0u8; 400];
+        let mut sink = MemSink::new(&mut room, &[]);
+        let status = run(rt.alloc(), &words, &mut source, &mut sink);
+        assert_eq!(rt; status.code(), 0);
+        assert_eq!(rt; sink.written(), text);
+    }
 }
 
 /// Lines with operands in memory: a displacement that isn't needed or must stand, SIB without an index, bits that play
