@@ -1,0 +1,5 @@
+pub mod Text
+pub mod Errors
+pub mod Laws
+pub mod Written
+pub mod Parsed

@@ -1,0 +1,19 @@
+//! The text of an instruction's meaning, both ways: `VADDPS x0 x1 x2 0`.
+#![tactic(auto)]
+
+mod appender;
+mod error;
+mod laws;
+mod number;
+mod operand;
+mod printer;
+mod reader;
+#[cfg(test)]
+mod tests;
+mod words;
+
+pub use appender::{MAX_MEANING, MAX_TEXT, append};
+pub use error::AsmError;
+pub use laws::{texts_are_words, texts_differ};
+pub use printer::{MeaningText, print};
+pub use reader::read;
