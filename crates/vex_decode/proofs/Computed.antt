@@ -10,7 +10,7 @@ use Rattle.vex_rows.specs.Rules.{has_key}
 use Rattle.vex_rows.specs.FormRows.{form_row}
 use Rattle.vex_rows.specs.Steps.{steps}
 use Rattle.vex_rows.specs.Table.{table}
-use Rattle.vex_rows.specs.Row.{has_groups, opcode_of}
+use Rattle.vex_rows.specs.Row.{has_groups, mark_of, opcode_of}
 use Rattle.vex_forms.specs.FormWalk.{walk_form}
 use Rattle.vex_decode.specs.Walk.{entry_of, walk}
 use Rattle.vex_decode.specs.Blocked.{blocked}
@@ -19,16 +19,16 @@ abbrev avx_bit : List Bool
 avx_bit = with_set no_bits avx
 
 permitted : blocked avx_bit (0xC4 ∷ 0xC1 ∷ 0x78 ∷ 0x28 ∷ 0xC0 ∷ []) ≡ None
-unfolding walk walk_form entry_of has_key table steps form_row groups has_groups opcode_of permits opcode_condition
+unfolding walk walk_form entry_of has_key table steps form_row groups has_groups mark_of opcode_of permits opcode_condition
 permitted = refl
 
 refused : blocked no_bits (0xC4 ∷ 0xC1 ∷ 0x78 ∷ 0x28 ∷ 0xC0 ∷ []) ≡ Some (InvalidOpcode, 5)
-unfolding walk walk_form entry_of has_key table steps form_row groups has_groups opcode_of permits opcode_condition
+unfolding walk walk_form entry_of has_key table steps form_row groups has_groups mark_of opcode_of permits opcode_condition
 refused = refl
 
 -- what follows a spelling plays no part
 followed : blocked avx_bit (0xC5 ∷ 0xF8 ∷ 0x28 ∷ 0xC0 ∷ 0xFF ∷ 0xFF ∷ []) ≡ None
-unfolding walk walk_form entry_of has_key table steps form_row groups has_groups opcode_of permits opcode_condition
+unfolding walk walk_form entry_of has_key table steps form_row groups has_groups mark_of opcode_of permits opcode_condition
 followed = refl
 
 -- every other step comes before the settings

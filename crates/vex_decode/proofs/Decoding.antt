@@ -1,39 +1,35 @@
 -- What follows for a caller from following the walk with its notes.
-use Rattle.std.specs.Prelude.{◌≡◌, ◌≢◌, refl, ℕ, ◌≤◌, ◌<◌, Bool, true, false, List, [], ◌∷◌, ◌++◌, length, Option, Some, None, Result, Ok, Err, IsOk, IsErr, IfOk, IfErr}
+use Rattle.std.specs.Prelude.{◌≡◌, refl, ℕ, ◌≤◌, Bool, true, false, List, [], ◌++◌, length, Some, Result, Ok, Err, IsOk, IsErr, IfOk, IfErr}
 use Rattle.std.specs.Result.{IsErrAnd}
 use Rattle.std.proofs.Common.{arith, ap, sym, ◌∙◌, subst, append-nil}
 use Rattle.std.proofs.lemmas.List.Elements.{recursion_from_All}
 use Rattle.x86_opcode.specs.Vex.{is_vex}
 use Rattle.x86_operand.specs.declared.error.DecodeError.{DecodeError}
-use Rattle.x86_operand.specs.declared.error.DecodeError.TheVariants.{ExhaustedInput, InvalidOpcode}
+use Rattle.x86_operand.specs.declared.error.DecodeError.TheVariants.{InvalidOpcode}
 use Rattle.x86_operand.specs.declared.note.FieldDescription.{FieldDescription}
 use Rattle.x86_operand.specs.Meaning.{Meaning, Decoded}
 use Rattle.x86_permit.specs.Permission.{permits}
-use Rattle.x86_reader.specs.Reader.{ReaderState, IsByte, Passes, CountsRefusal}
-use Rattle.x86_reader.specs.SliceReader.{SliceReader, slice_state}
+use Rattle.x86_reader.specs.Reader.{ReaderState, IsByte, Passes}
 use Rattle.x86_reader.specs.Sink.{SinkState, Records}
 use Rattle.x86_address.specs.Bytes.{IsBytes}
-use Rattle.x86_address.specs.Reading.{Reading}
 use Rattle.x86_address.specs.Follows.{Follows}
 use Rattle.x86_address.specs.Follows.Laws.{takes_all, fails_at_end, most_taken, over_told, over_slice, completes}
-use Rattle.vex_rows.specs.Row.{Row, opcode_of}
+use Rattle.vex_rows.specs.Row.{Row, mark_of, opcode_of}
 use Rattle.vex_forms.specs.FormWalk.{taken}
 use Rattle.vex_decode.specs.Spelling.{Syntax, meant, Spells}
 use Rattle.vex_decode.specs.Walk.{walk}
-use Rattle.vex_decode.specs.Blocked.{refused, blocked}
-use Rattle.vex_decode.specs.Notes.{notes}
+use Rattle.vex_decode.specs.Blocked.{refused}
 use Rattle.vex_decode.specs.Noting.{FollowsNoting}
 use Rattle.vex_decode.specs.NotedWalk.{Step, noted_walk, IsMeant}
 use Rattle.vex_decode.specs.Decoding.{TakesInstruction, TakesBlocked, CompletesDecode, BlocksSlice, NotesTaken}
-use Rattle.vex_decode.specs.Outcome.{Took, Decodes}
+use Rattle.vex_decode.specs.Outcome.{Decodes}
 use Rattle.vex_decode.proofs.Binds.{ok_same}
 use Rattle.vex_decode.proofs.Fronts.{walk_most}
 use Rattle.vex_decode.proofs.NotesTaken.{walk_noted, few_notes, erases_walk}
 use Rattle.vex_decode.proofs.Permitted.{is_vex-row}
 use Rattle.vex_decode.proofs.Recording.{follows_erased, notes_taken}
-use Rattle.vex_decode.proofs.Refusing.{evex_meant}
 use Rattle.vex_decode.proofs.SpellingLaws.{reading_is_spelling}
-use Rattle.vex_decode.proofs.Spells.{walk-spelling, opcode_meant}
+use Rattle.vex_decode.proofs.Spells.{walk-spelling, opcode_meant, permits_meant}
 
 -- bytes that were taken are bytes
 pub are_bytes : {old new : ReaderState} {bytes : List ℕ} → Passes old new bytes → IsBytes bytes
@@ -45,15 +41,8 @@ spelled bytes read m is walked means =
     let begins = (reading_is_spelling bytes read.0 read.1 [] is).0 walked in
     record { row = read.0; is_row = begins.is_row; by = record { parts = read.1; fits = begins.fits; written = begins.written ∙ append-nil _; means = means } }
 
--- the settings are asked for the opcode of the row
-asked : (settings : List Bool) (read : Row × Syntax) (m : Meaning) → m ≡ meant read.0 read.1 → permits settings m.evex m.opcode ≡ permits settings false (opcode_of read.0)
-asked settings read m means =
-    ap (λ (m : Meaning). permits settings m.evex m.opcode) means
-    ∙ ap (λ mark. permits settings mark (meant read.0 read.1).opcode) (evex_meant read.0 read.1)
-    ∙ ap (permits settings false) (opcode_meant read.0 read.1)
-
 -- what the settings refuse
-refused-not_permitted : (settings : List Bool) (bytes rest : List ℕ) (read : Row × Syntax) → permits settings false (opcode_of read.0) ≡ false → refused settings bytes (Ok (read, rest)) ≡ Some (InvalidOpcode, taken bytes rest)
+refused-not_permitted : (settings : List Bool) (bytes rest : List ℕ) (read : Row × Syntax) → permits settings (mark_of read.0) (opcode_of read.0) ≡ false → refused settings bytes (Ok (read, rest)) ≡ Some (InvalidOpcode, taken bytes rest)
 refused-not_permitted settings bytes rest read not = rw not refl
 
 all_taken : (bytes : List ℕ) → taken bytes [] ≡ length bytes
@@ -152,7 +141,8 @@ module _ {settings : List Bool} {old new : ReaderState} {s0 s1 : SinkState Field
   settings_refuse : (bare : Decoded) → permits settings bare.meaning.evex bare.meaning.opcode ≡ false → FollowsNoting noted_walk IsMeant old new s0 s1 (Ok bare) → Decodes settings old new s0 s1 (Err InvalidOpcode)
   settings_refuse bare not f =
       let e = plain (Ok bare) f in
-      let row_not : permits settings false (opcode_of e.answers.0.0) ≡ false = sym (asked settings e.answers.0 bare.meaning e.answers.1.meaning) ∙ not in
+      let row : Row = e.answers.0.0 in
+      let row_not : permits settings (mark_of row) (opcode_of row) ≡ false = sym (permits_meant settings row e.answers.0.1 bare.meaning e.answers.1.meaning) ∙ not in
       record {
         took = (
           record {
@@ -164,7 +154,7 @@ module _ {settings : List Bool} {old new : ReaderState} {s0 s1 : SinkState Field
           },
           λ before after is_old is_new.
               let at = over_slice (Ok bare) e before after is_old is_new in
-              ap (refused settings before.left) at.2 ∙ refused-not_permitted settings before.left after.left at.0 (sym (asked settings at.0 bare.meaning at.1.meaning) ∙ not),
+              ap (refused settings before.left) at.2 ∙ refused-not_permitted settings before.left after.left at.0 (sym (permits_meant settings at.0.0 at.0.1 bare.meaning at.1.meaning) ∙ not),
         );
         complete = not_complete settings bare not e;
         noted = notes_told (Ok bare) f;

@@ -5,7 +5,7 @@ use Rattle.std.proofs.Common.{arith, ap, sym, ◌∙◌, append_assoc, length-ap
 use Rattle.x86_operand.specs.declared.error.DecodeError.{DecodeError}
 use Rattle.x86_operand.specs.declared.error.DecodeError.TheVariants.{ExhaustedInput, InvalidOpcode, InvalidOperand, Outside}
 use Rattle.x86_operand.specs.Kind.{Kind, WithoutModRM}
-use Rattle.x86_address.specs.Reading.{Reading, ◌>>=◌, take_byte, take_doubleword, take_short, take_long, take_displacement, take_baseless, take_scaled, take_sib, take_rip_based, take_based, take_place}
+use Rattle.x86_address.specs.Reading.{Reading, ◌>>=◌, take_byte, take_doubleword, take_long, take_displacement, take_baseless, take_scaled, take_sib, take_place}
 use Rattle.x86_address.specs.Most.{left_by, TakesAtMost}
 use Rattle.vex_rows.specs.declared.entry.Entry.{Entry}
 use Rattle.vex_rows.specs.declared.key.Map.{Map}
@@ -14,7 +14,7 @@ use Rattle.vex_rows.specs.declared.steps.Check.TheVariants.{V0, L0, Reg, Mem, Gr
 use Rattle.vex_rows.specs.Steps.{FormSteps, steps}
 use Rattle.vex_rows.specs.Row.{Row}
 use Rattle.vex_forms.specs.Fields.{Fields}
-use Rattle.vex_forms.specs.FormWalk.{passes, refusal, check_all, kind_of_mod, take_imm, place_by, walk_modrm, walk_alone, walk_form, Operands, row_of}
+use Rattle.vex_forms.specs.FormWalk.{passes, refusal, check_all, kind_by, take_imm, place_by, walk_modrm, walk_alone, walk_form, row_of}
 use Rattle.vex_decode.specs.Fields.{PrefixForm, C4, C5}
 use Rattle.vex_decode.specs.Spelling.{Syntax}
 use Rattle.vex_decode.specs.Walk.{map_of, fields_by_map, read_fields, form_of, read_prefix, key_of, entry_of, found, syntax_of, walk}
@@ -185,9 +185,9 @@ module _ (P : DecodeError → Type 0) (exhausted : P ExhaustedInput) (opcode : P
   from_modrm : (entry : Entry) (f : Fields) (form : FormSteps) → Fronts P 7 (walk_modrm entry f form)
   from_modrm entry f form =
       both 1 6 take_byte _ byte (λ modrm.
-      both 0 6 (check_all entry f (kind_of_mod (modrm / 64)) ((modrm / 8) % 8) form.after_modrm) _ (checks entry f _ _ form.after_modrm) (λ second.
+      both 0 6 (check_all entry f (kind_by entry modrm) ((modrm / 8) % 8) form.after_modrm) _ (checks entry f _ _ form.after_modrm) (λ second.
       both 5 1 (place_by form.address (modrm / 64) (modrm % 8)) _ (place_of form.address (modrm / 64) (modrm % 8)) (λ place.
-      both 0 1 (check_all entry f (kind_of_mod (modrm / 64)) ((modrm / 8) % 8) form.after_address) _ (checks entry f _ _ form.after_address) (λ third.
+      both 0 1 (check_all entry f (kind_by entry modrm) ((modrm / 8) % 8) form.after_address) _ (checks entry f _ _ form.after_address) (λ third.
       both 1 0 (take_imm form.imm) _ (imm form.imm) (λ imm. answering _)))))
 
   alone : (form : FormSteps) → Fronts P 7 (walk_alone form)

@@ -1,5 +1,5 @@
 -- The notes on given bytes, computed.
-use Rattle.std.specs.Prelude.{◌≡◌, refl, ℕ, List, [], ◌∷◌}
+use Rattle.std.specs.Prelude.{◌≡◌, refl, [], ◌∷◌}
 use Rattle.x86_opcode.specs.declared.IntegerOpcode.TheVariants.{VZEROUPPER}
 use Rattle.x86_opcode.specs.declared.Opcode.TheVariants.{Integer}
 use Rattle.x86_operand.specs.declared.note.Note.TheVariants.{P0, MOther, R0, W1, PrefixEnd, OpcodeEnd}

@@ -1,18 +1,16 @@
 -- The notes of the steps of a decode are those on the bytes that it takes, and its answer is that of the walk.
-use Rattle.std.specs.Prelude.{◌≡◌, ◌≢◌, refl, ℕ, ◌+◌, ◌≤◌, ◌==◌, ◌%◌, Bool, true, false, List, [], ◌∷◌, ◌++◌, length, Option, Some, None, Ok, Err, if◌then◌else◌}
-use Rattle.std.proofs.Common.{arith, ap, sym, ◌∙◌, append-nil, length-append}
+use Rattle.std.specs.Prelude.{◌≡◌, ◌≢◌, refl, ℕ, ◌≤◌, ◌==◌, ◌%◌, Bool, true, false, List, [], ◌∷◌, ◌++◌, length, Option, Some, None, Ok, Err, if◌then◌else◌}
+use Rattle.std.proofs.Common.{arith, ap, sym, ◌∙◌}
 use Rattle.x86_operand.specs.declared.error.DecodeError.TheVariants.{Outside}
 use Rattle.x86_address.specs.Reading.{Reading, ◌>>=◌, take_byte}
 use Rattle.vex_rows.specs.declared.entry.Entry.{Entry}
 use Rattle.vex_rows.specs.declared.key.Map.{Map}
-use Rattle.vex_rows.specs.Row.{Row}
 use Rattle.vex_forms.specs.Fields.{Fields}
 use Rattle.vex_decode.specs.Fields.{PrefixForm, C4, C5}
-use Rattle.vex_decode.specs.Spelling.{Syntax}
-use Rattle.vex_decode.specs.Walk.{map_of, fields_of_two, fields_of_three, fields_by_map, read_fields, form_of, read_prefix, key_of, entry_of, found, walk}
-use Rattle.vex_decode.specs.Notes.{NoteAt, found_notes, notes_on_opcode, notes_on_two, notes_by_map, notes_on_three, notes, two_byte_notes, map_notes, three_byte_notes, opcode_notes}
-use Rattle.vex_decode.specs.Noting.{Noting, go_on, ◌>>◌, silent, noting}
-use Rattle.vex_decode.specs.NotedWalk.{Step, noted_by_map, noted_fields, walk_row, noted_opcode, noted_rest, noted_walk}
+use Rattle.vex_decode.specs.Walk.{map_of, fields_of_two, fields_of_three, fields_by_map, read_fields, form_of, key_of, entry_of, found, walk}
+use Rattle.vex_decode.specs.Notes.{found_notes, notes_on_opcode, notes_on_two, notes_by_map, notes_on_three, notes, two_byte_notes, map_notes, three_byte_notes, opcode_notes}
+use Rattle.vex_decode.specs.Noting.{◌>>◌, silent, noting}
+use Rattle.vex_decode.specs.NotedWalk.{noted_by_map, noted_fields, walk_row, noted_opcode, noted_rest, noted_walk}
 use Rattle.vex_decode.proofs.Fronts.{walk_on, rest_of}
 use Rattle.vex_decode.proofs.Refusing.{not_equal}
 use Rattle.vex_decode.proofs.Recording.{Erases, erases_silent, erases_noted, erases_then}

@@ -13,7 +13,7 @@ use Rattle.vex_rows.specs.Groups.{groups}
 use Rattle.vex_rows.specs.FormRows.{form_row}
 use Rattle.vex_rows.specs.Steps.{steps}
 use Rattle.vex_rows.specs.Table.{table}
-use Rattle.vex_rows.specs.Row.{Row, Among, IsRow, rows, choices, exists, has_groups, opcode_of}
+use Rattle.vex_rows.specs.Row.{Row, Among, IsRow, rows, choices, exists, has_groups, mark_of, opcode_of}
 use Rattle.vex_rows.specs.Row.Lists.{among-map, among-filter, both-parts, parts-both}
 use Rattle.vex_decode.specs.Laws.{AreWithin}
 
@@ -42,7 +42,8 @@ all_set-more settings more within (i ∷ places) h =
     parts-both (is_set more i) (all_set more places) (within i parts.0) (all_set-more settings more within places parts.1)
 
 -- the opcode of a row stays permitted
-pub permits-more : (settings more : List Bool) → AreWithin settings more → (row : Row) → IsRow row → permits settings false (opcode_of row) ≡ true → permits more false (opcode_of row) ≡ true
+pub permits-more : (settings more : List Bool) → AreWithin settings more → (row : Row) → IsRow row → permits settings (mark_of row) (opcode_of row) ≡ true → permits more (mark_of row) (opcode_of row) ≡ true
+unfolding mark_of
 permits-more settings more within row is_row h =
     let o = opcode_of row in
     let vex = is_vex-row row is_row in

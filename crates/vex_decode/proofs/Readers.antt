@@ -14,7 +14,7 @@ use Rattle.vex_rows.specs.declared.steps.Check.TheVariants.{V0, L0, Reg, Mem, Gr
 use Rattle.vex_rows.specs.Steps.{FormSteps, steps}
 use Rattle.vex_forms.specs.Fields.{Fields}
 use Rattle.vex_decode.specs.Fields.{PrefixForm, C4, C5}
-use Rattle.vex_forms.specs.FormWalk.{passes, refusal, check_all, kind_of_mod, take_imm, place_by, walk_modrm, walk_alone, walk_form}
+use Rattle.vex_forms.specs.FormWalk.{passes, refusal, check_all, kind_by, take_imm, place_by, walk_modrm, walk_alone, walk_form}
 use Rattle.vex_decode.specs.Walk.{map_of, fields_of_two, fields_of_three, fields_by_map, read_fields, form_of, read_prefix, key_of, entry_of, found, walk}
 
 -- where the input is exhausted, nothing is left
@@ -70,11 +70,11 @@ IsReader-place_by address mode rm = IsReader-if _ address _ _ (IsReader-wider Ex
 
 IsReader-walk_modrm : (entry : Entry) (f : Fields) (form : FormSteps) → IsReader ExhaustsAll (walk_modrm entry f form)
 IsReader-walk_modrm entry f form =
-    let checks = λ (modrm : ℕ) (cs : List Check). IsReader-check_all entry f (kind_of_mod (modrm / 64)) ((modrm / 8) % 8) cs in
+    let checks = λ (modrm : ℕ) (cs : List Check). IsReader-check_all entry f (kind_by entry modrm) ((modrm / 8) % 8) cs in
     IsReader-bind _ take_byte _ byte (λ modrm.
-    IsReader-bind _ (check_all entry f (kind_of_mod (modrm / 64)) ((modrm / 8) % 8) form.after_modrm) _ (checks modrm form.after_modrm) (λ second.
+    IsReader-bind _ (check_all entry f (kind_by entry modrm) ((modrm / 8) % 8) form.after_modrm) _ (checks modrm form.after_modrm) (λ second.
     IsReader-bind _ (place_by form.address (modrm / 64) (modrm % 8)) _ (IsReader-place_by form.address (modrm / 64) (modrm % 8)) (λ place.
-    IsReader-bind _ (check_all entry f (kind_of_mod (modrm / 64)) ((modrm / 8) % 8) form.after_address) _ (checks modrm form.after_address) (λ third.
+    IsReader-bind _ (check_all entry f (kind_by entry modrm) ((modrm / 8) % 8) form.after_address) _ (checks modrm form.after_address) (λ third.
     IsReader-bind _ (take_imm form.imm) _ (IsReader-take_imm form.imm) (λ imm. IsReader-ok _ _)))))
 
 IsReader-walk_alone : (form : FormSteps) → IsReader ExhaustsAll (walk_alone form)

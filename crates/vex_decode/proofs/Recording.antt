@@ -1,9 +1,9 @@
 -- Calls that follow steps with notes, one after the other.
 use Rattle.std.specs.Result.{IsErrAnd}
-use Rattle.std.proofs.Common.{◌≡◌, ◌≢◌, ◌∙◌, ap, sym, subst, refl, ℕ, List, [], ◌∷◌, ◌++◌, Result, Ok, Err, IsErr, append_assoc, append-nil}
+use Rattle.std.proofs.Common.{◌≡◌, ◌≢◌, ◌∙◌, ap, sym, subst, refl, ℕ, List, [], ◌++◌, Result, Ok, Err, IsErr, append_assoc, append-nil}
 use Rattle.x86_operand.specs.declared.error.DecodeError.{DecodeError}
 use Rattle.x86_operand.specs.declared.error.DecodeError.TheVariants.{ExhaustedInput}
-use Rattle.x86_reader.specs.Reader.{ReaderState, Passes}
+use Rattle.x86_reader.specs.Reader.{ReaderState}
 use Rattle.x86_reader.specs.Reader.Laws.{Passes-none, Passes-trans}
 use Rattle.x86_reader.specs.Sink.{SinkState, Triple, Records}
 use Rattle.x86_reader.specs.Sink.Laws.{Records-none, Records-trans}

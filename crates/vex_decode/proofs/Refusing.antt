@@ -1,25 +1,23 @@
 -- Where bytes are blocked: after how many of them, and by which of them.
 use Rattle.std.specs.Prelude.{◌≡◌, ◌≢◌, refl, ℕ, ◌≤◌, ◌==◌, Bool, true, false, List, [], ◌∷◌, ◌++◌, length, take, Option, Some, None, Ok, Err, if◌then◌else◌}
-use Rattle.std.proofs.Common.{arith, ap, sym, ◌∙◌, subst, append-nil, length-append, length-take}
+use Rattle.std.proofs.Common.{arith, ap, sym, ◌∙◌, append-nil, length-append}
 use Rattle.std.proofs.Math.Seq.{take-append_seam}
 use Rattle.std.proofs.lemmas.Bool.{eqb-true, eq-eqb}
 use Rattle.x86_operand.specs.declared.error.DecodeError.{DecodeError}
 use Rattle.x86_operand.specs.declared.error.DecodeError.TheVariants.{ExhaustedInput, InvalidOpcode, Outside}
-use Rattle.x86_operand.specs.Meaning.{Meaning}
 use Rattle.x86_permit.specs.Permission.{permits}
 use Rattle.x86_address.specs.Bytes.{IsBytes}
 use Rattle.x86_address.specs.Reading.{Reading, ◌>>=◌}
 use Rattle.x86_address.specs.Most.{left_by}
-use Rattle.vex_rows.specs.Row.{Row, opcode_of}
-use Rattle.vex_forms.specs.Gives.{gives}
+use Rattle.vex_rows.specs.Row.{Row, mark_of, opcode_of}
 use Rattle.vex_forms.specs.FormWalk.{taken, failure}
-use Rattle.vex_decode.specs.Spelling.{Syntax, bytes_of, meant, Spells}
+use Rattle.vex_decode.specs.Spelling.{Syntax, bytes_of, meant}
 use Rattle.vex_decode.specs.Walk.{read_fields, walk}
 use Rattle.vex_decode.specs.Fields.{PrefixForm, C4, C5}
 use Rattle.vex_decode.specs.Blocked.{refused, blocked, fails}
 use Rattle.vex_decode.specs.Laws.{FirstBytes, AtMostEleven, SettingsLast, BeginsOutside, OutsideExactly, BeginsRefused, SettingsAlone}
-use Rattle.vex_decode.proofs.Fronts.{Any, leaving, Front, Fronts, FailsBy, walk_on, after_form, walk_fronts}
-use Rattle.vex_decode.proofs.Spells.{walk-spelling, opcode_meant, spells-parts}
+use Rattle.vex_decode.proofs.Fronts.{Any, leaving, Front, FailsBy, walk_on, after_form, walk_fronts}
+use Rattle.vex_decode.proofs.Spells.{walk-spelling, permits_meant, spells-parts}
 use Rattle.vex_decode.proofs.Walk.{walk-written}
 
 -- any error but that the first byte is another
@@ -31,7 +29,7 @@ some_same e = cc
 
 -- the number is that of the bytes taken
 counted : (settings : List Bool) (bytes : List ℕ) (error : DecodeError) (n : ℕ) (reading : Reading (Row × Syntax)) → refused settings bytes reading ≡ Some (error, n) → n ≡ taken bytes (left_by reading)
-counted settings bytes error n (Ok read) e = by (permits settings false (opcode_of read.0.0)) e where
+counted settings bytes error n (Ok read) e = by (permits settings (mark_of read.0.0) (opcode_of read.0.0)) e where
   by : (b : Bool) → ◌≡◌ {A = Option (DecodeError × ℕ)} (if b then None else Some (InvalidOpcode, taken bytes read.1)) (Some (error, n)) → n ≡ taken bytes read.1
   by true h = cc
   by false h = sym (ap (λ x. x.1) (some_same h))
@@ -43,7 +41,7 @@ same {error} front is = ap (λ n. Some (error, n)) (omega arith) ∙ ap (λ e. S
 
 -- the same answer over the bytes taken alone
 over_front : (settings : List Bool) (bytes front : List ℕ) (error : DecodeError) (n : ℕ) (reading : Reading (Row × Syntax)) → refused settings bytes reading ≡ Some (error, n) → refused settings front (leaving [] reading) ≡ Some (error, length front)
-over_front settings bytes front error n (Ok read) e = by (permits settings false (opcode_of read.0.0)) e where
+over_front settings bytes front error n (Ok read) e = by (permits settings (mark_of read.0.0) (opcode_of read.0.0)) e where
   by : (b : Bool) → ◌≡◌ {A = Option (DecodeError × ℕ)} (if b then None else Some (InvalidOpcode, taken bytes read.1)) (Some (error, n)) → ◌≡◌ {A = Option (DecodeError × ℕ)} (if b then None else Some (InvalidOpcode, taken front [])) (Some (error, length front))
   by true h = cc
   by false h = same front (ap (λ x. x.0) (some_same h))
@@ -90,7 +88,7 @@ settings_last settings bytes error n e = by (walk bytes) e where
 
 -- an error that isn't `Outside`
 inside : (settings : List Bool) (bytes : List ℕ) (n : ℕ) (reading : Reading (Row × Syntax)) → FailsBy Inside reading → refused settings bytes reading ≢ Some (Outside, n)
-inside settings bytes n (Ok read) so e = by (permits settings false (opcode_of read.0.0)) e where
+inside settings bytes n (Ok read) so e = by (permits settings (mark_of read.0.0) (opcode_of read.0.0)) e where
   by : (b : Bool) → ◌≡◌ {A = Option (DecodeError × ℕ)} (if b then None else Some (InvalidOpcode, taken bytes read.1)) (Some (Outside, n)) → ⊥
   by true h = cc
   by false h = let never : InvalidOpcode ≡ Outside = ap (λ x. x.0) (some_same h) in cc
@@ -133,20 +131,16 @@ outside_exactly settings bytes n = (
 
 -- ---- the settings
 
-pub evex_meant : (row : Row) (parts : Syntax) → (meant row parts).evex ≡ false
-unfolding gives
-evex_meant row parts = refl
-
 -- where the settings alone refuse
 pub record Refuses (settings : List Bool) (bytes : List ℕ) (n : ℕ) (reading : Reading (Row × Syntax)) : Type 0 where
   pub read : (Row × Syntax) × List ℕ
   pub was : reading ≡ Ok read
-  pub refused : permits settings false (opcode_of read.0.0) ≡ false
+  pub refused : permits settings (mark_of read.0.0) (opcode_of read.0.0) ≡ false
   pub number : n ≡ taken bytes read.1
 
 refuses : (settings : List Bool) (bytes : List ℕ) (n : ℕ) (reading : Reading (Row × Syntax)) → failure bytes reading ≡ None → refused settings bytes reading ≡ Some (InvalidOpcode, n) → Refuses settings bytes n reading
-refuses settings bytes n (Ok read) none e = by (permits settings false (opcode_of read.0.0)) refl e where
-  by : (b : Bool) → permits settings false (opcode_of read.0.0) ≡ b → ◌≡◌ {A = Option (DecodeError × ℕ)} (if b then None else Some (InvalidOpcode, taken bytes read.1)) (Some (InvalidOpcode, n)) → Refuses settings bytes n (Ok read)
+refuses settings bytes n (Ok read) none e = by (permits settings (mark_of read.0.0) (opcode_of read.0.0)) refl e where
+  by : (b : Bool) → permits settings (mark_of read.0.0) (opcode_of read.0.0) ≡ b → ◌≡◌ {A = Option (DecodeError × ℕ)} (if b then None else Some (InvalidOpcode, taken bytes read.1)) (Some (InvalidOpcode, n)) → Refuses settings bytes n (Ok read)
   by true is h = cc
   by false is h = record { read = read; was = refl; refused = is; number = sym (ap (λ x. x.1) (some_same h)) }
 refuses settings bytes n (Err failed) none e = cc
@@ -163,7 +157,7 @@ begins_refused settings bytes n is at =
       whole = omega (arith, at.number, written, length-append (bytes_of row parts) at.read.1);
       m = meant row parts;
       spells = spells-parts row parts walked.is_row walked.is;
-      refused = ap (λ mark. permits settings mark (meant row parts).opcode) (evex_meant row parts) ∙ ap (permits settings false) (opcode_meant row parts) ∙ at.refused;
+      refused = permits_meant settings row parts _ refl ∙ at.refused;
     }
 
 refused_there : (settings : List Bool) (bytes : List ℕ) (n : ℕ) → BeginsRefused settings bytes n → (fails bytes ≡ None) × (blocked settings bytes ≡ Some (InvalidOpcode, n))
@@ -172,9 +166,7 @@ refused_there settings bytes n at =
     let parts = at.spells.by.parts in
     let rest = at.begins.0 in
     let reads : walk bytes ≡ Ok ((row, parts), rest) = ap walk at.begins.1 ∙ walk-spelling at.front rest at.m at.spells in
-    let mark : at.m.evex ≡ false = ap (λ (m : Meaning). m.evex) at.spells.by.means ∙ evex_meant row parts in
-    let opcode : at.m.opcode ≡ opcode_of row = ap (λ (m : Meaning). m.opcode) at.spells.by.means ∙ opcode_meant row parts in
-    let not : permits settings false (opcode_of row) ≡ false = sym (ap (permits settings false) opcode) ∙ sym (ap (λ mark. permits settings mark at.m.opcode) mark) ∙ at.refused in
+    let not : permits settings (mark_of row) (opcode_of row) ≡ false = sym (permits_meant settings row parts at.m at.spells.by.means) ∙ at.refused in
     let written : length bytes ≡ length (at.front ++ rest) = ap length at.begins.1 in
     let number : taken bytes rest ≡ n = omega (arith, written, length-append at.front rest, at.whole) in
     (ap (failure bytes) reads, ap (refused settings bytes) reads ∙ rw not (ap (λ k. Some (InvalidOpcode, k)) number))

@@ -1,6 +1,6 @@
 -- What follows for a caller that has taken the first byte.
-use Rattle.std.specs.Prelude.{◌≡◌, refl, ℕ, ◌+◌, ◌≤◌, ◌<◌, List, [], ◌∷◌, length, Some, Result, Ok, Err, IsSome}
-use Rattle.std.proofs.Common.{arith, ap, sym, ◌∙◌, subst}
+use Rattle.std.specs.Prelude.{◌≡◌, refl, ℕ, ◌≤◌, ◌<◌, List, [], ◌∷◌, Some, Result, Ok, Err, IsSome}
+use Rattle.std.proofs.Common.{arith, ap, ◌∙◌, subst}
 use Rattle.x86_operand.specs.declared.error.DecodeError.{DecodeError}
 use Rattle.x86_operand.specs.declared.note.FieldDescription.{FieldDescription}
 use Rattle.x86_operand.specs.Meaning.{Decoded}
@@ -8,7 +8,7 @@ use Rattle.x86_reader.specs.Reader.{ReaderState}
 use Rattle.x86_reader.specs.Sink.{SinkState, Records}
 use Rattle.x86_address.specs.Follows.{Follows}
 use Rattle.x86_address.specs.Follows.Laws.{takes_all, fails_at_end, most_taken}
-use Rattle.vex_forms.specs.FormWalk.{taken, failure}
+use Rattle.vex_forms.specs.FormWalk.{failure}
 use Rattle.vex_decode.specs.Fields.{PrefixForm, C4, C5}
 use Rattle.vex_decode.specs.Walk.{form_of, walk}
 use Rattle.vex_decode.specs.Notes.{notes}

@@ -1,17 +1,16 @@
 -- A decode over a `U8Reader` that was made for a slice.
-use Rattle.std.specs.Prelude.{◌≡◌, ◌↔◌, refl, ℕ, ◌≤◌, Bool, true, false, List, [], ◌++◌, length, take, Option, Some, None, Result, Ok, Err, IsOk, IfOk, IfErr}
+use Rattle.std.specs.Prelude.{◌≡◌, ◌↔◌, refl, ℕ, ◌≤◌, Bool, true, List, ◌++◌, length, take, Some, None, Result, Ok, Err, IsOk, IfOk, IfErr}
 use Rattle.std.proofs.Common.{arith, ap, sym, ◌∙◌, subst, length-append}
 use Rattle.std.proofs.Math.Seq.{take-append_seam}
 use Rattle.x86_operand.specs.declared.error.DecodeError.{DecodeError}
-use Rattle.x86_operand.specs.Meaning.{Meaning, Decoded}
+use Rattle.x86_operand.specs.Meaning.{Decoded}
 use Rattle.x86_permit.specs.Permission.{permits}
 use Rattle.x86_reader.specs.Reader.{marked}
 use Rattle.x86_reader.specs.SliceReader.{SliceReader, slice_state}
 use Rattle.vex_forms.specs.FormWalk.{taken}
-use Rattle.vex_decode.specs.Spelling.{meant, Spells}
+use Rattle.vex_decode.specs.Spelling.{Spells}
 use Rattle.vex_decode.specs.Blocked.{blocked}
 use Rattle.vex_decode.specs.Decoding.{TakesInstruction, BlocksSlice}
-use Rattle.vex_decode.proofs.Refusing.{evex_meant}
 use Rattle.vex_decode.proofs.Spells.{begun-not_blocked}
 
 -- what a decode of a slice answers
@@ -35,10 +34,8 @@ module _ (settings : List Bool) (bytes : List ℕ) (before after : SliceReader) 
       let written : bytes ≡ t.bytes ++ after.left = sym is ∙ some_same t.takes.passes.left in
       let lengths : length bytes ≡ length (t.bytes ++ after.left) = ap length written in
       let front : take decoded.len bytes ≡ t.bytes = ap (λ n. take n bytes) t.len ∙ ap (take (length t.bytes)) written ∙ take-append_seam t.bytes after.left in
-      let mark : decoded.meaning.evex ≡ false = ap (λ (m : Meaning). m.evex) t.spells.by.means ∙ evex_meant t.spells.row t.spells.by.parts in
-      let permitted : permits settings false decoded.meaning.opcode ≡ true = sym (ap (λ mark. permits settings mark decoded.meaning.opcode) mark) ∙ t.permitted in
       record {
-        begun = ap (blocked settings) written ∙ begun-not_blocked settings t.bytes after.left decoded.meaning t.spells permitted;
+        begun = ap (blocked settings) written ∙ begun-not_blocked settings t.bytes after.left decoded.meaning t.spells t.permitted;
         within = omega (arith, lengths, length-append t.bytes after.left, t.len);
         most = omega (arith, t.len, t.most);
         spelled = subst (λ b. Spells b decoded.meaning) (sym front) t.spells;

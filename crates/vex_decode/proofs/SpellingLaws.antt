@@ -8,14 +8,14 @@ use Rattle.x86_operand.specs.Meaning.{Meaning}
 use Rattle.x86_permit.specs.Permission.{permits}
 use Rattle.x86_address.specs.Bytes.{IsBytes}
 use Rattle.x86_address.specs.Reading.{Reading}
-use Rattle.vex_rows.specs.Row.{Row, opcode_of}
+use Rattle.vex_rows.specs.Row.{Row, mark_of, opcode_of}
 use Rattle.vex_decode.specs.Spelling.{Syntax, bytes_of, meant, Spells}
 use Rattle.vex_decode.specs.Walk.{walk}
 use Rattle.vex_forms.specs.FormWalk.{taken}
 use Rattle.vex_decode.specs.Blocked.{refused, blocked}
 use Rattle.vex_decode.specs.Laws.{PrefixFree, OneMeaning, ReadingIsSpelling, BeginsPermitted, BlockedOrBegun, MoreBytes, ExhaustedAtEnd, MoreSettings, SameAnswer}
 use Rattle.vex_decode.proofs.Binds.{ok_same}
-use Rattle.vex_decode.proofs.Spells.{walk-spelling, begun-not_blocked, not_blocked-spells, opcode_meant, spells-parts, refused-permitted}
+use Rattle.vex_decode.proofs.Spells.{walk-spelling, begun-not_blocked, not_blocked-spells, permits_meant, spells-parts, refused-permitted}
 use Rattle.vex_decode.proofs.Walk.{walk-again, walk-written}
 use Rattle.vex_decode.proofs.Readers.{IsReader-walk}
 use Rattle.vex_decode.proofs.Permitted.{permits-more}
@@ -55,7 +55,7 @@ begun settings bytes is e =
       begins = (at.rest, at.written);
       m = meant at.row at.parts;
       spells = spells-parts at.row at.parts at.is_row at.fits;
-      permitted = subst (λ o. permits settings false o ≡ true) (sym (opcode_meant at.row at.parts)) at.permitted;
+      permitted = permits_meant settings at.row at.parts _ refl ∙ at.permitted;
     }
 
 not_blocked : (settings : List Bool) (bytes : List ℕ) → BeginsPermitted settings bytes → blocked settings bytes ≡ None
@@ -77,7 +77,7 @@ refused-more : (settings : List Bool) (bytes more : List ℕ) (step again : Read
     → refused settings (bytes ++ more) again ≡ refused settings bytes step
 refused-more settings bytes more (Ok read) again ok err other =
     ap (refused settings (bytes ++ more)) (ok read refl)
-    ∙ ap (λ n. if permits settings false (opcode_of read.0.0) then None else Some (InvalidOpcode, n)) (taken-more bytes read.1 more)
+    ∙ ap (λ n. if permits settings (mark_of read.0.0) (opcode_of read.0.0) then None else Some (InvalidOpcode, n)) (taken-more bytes read.1 more)
 refused-more settings bytes more (Err error) again ok err other =
     ap (refused settings (bytes ++ more)) (err error refl (λ e. other (taken bytes error.1) (ap (λ x. Some (x, taken bytes error.1)) e)))
     ∙ ap (λ n. Some (error.0, n)) (taken-more bytes error.1 more)
@@ -93,7 +93,7 @@ some_same e = cc
 refused-exhausted : (settings : List Bool) (bytes : List ℕ) (n : ℕ) (step : Reading (Row × Syntax))
     → ((error : DecodeError × List ℕ) → step ≡ Err error → error.0 ≡ ExhaustedInput → error.1 ≡ [])
     → refused settings bytes step ≡ Some (ExhaustedInput, n) → n ≡ length bytes
-refused-exhausted settings bytes n (Ok read) all e = by (permits settings false (opcode_of read.0.0)) e where
+refused-exhausted settings bytes n (Ok read) all e = by (permits settings (mark_of read.0.0) (opcode_of read.0.0)) e where
   by : (b : Bool) → ◌≡◌ {A = Option (DecodeError × ℕ)} (if b then None else Some (InvalidOpcode, taken bytes read.1)) (Some (ExhaustedInput, n)) → n ≡ length bytes
   by true h = cc
   by false h = let never : InvalidOpcode ≡ ExhaustedInput = ap (λ x. x.0) (some_same h) in cc

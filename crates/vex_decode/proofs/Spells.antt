@@ -1,6 +1,6 @@
 -- How the first failing step tells what a byte string begins with.
 use Rattle.std.specs.Prelude.{◌≡◌, refl, ℕ, Bool, true, false, List, [], ◌++◌, length, take, Option, Some, None, Ok, Err, if◌then◌else◌}
-use Rattle.std.proofs.Common.{arith, ap, sym, ◌∙◌, subst, append-nil, length-append}
+use Rattle.std.proofs.Common.{arith, ap, ap₂, sym, ◌∙◌, subst, append-nil, length-append}
 use Rattle.std.proofs.Math.Seq.{take-append_seam}
 use Rattle.x86_operand.specs.declared.error.DecodeError.{DecodeError}
 use Rattle.x86_operand.specs.declared.error.DecodeError.TheVariants.{InvalidOpcode}
@@ -8,7 +8,7 @@ use Rattle.x86_operand.specs.Meaning.{Meaning}
 use Rattle.x86_permit.specs.Permission.{permits}
 use Rattle.x86_address.specs.Bytes.{IsBytes}
 use Rattle.x86_address.specs.Reading.{Reading}
-use Rattle.vex_rows.specs.Row.{Row, IsRow, opcode_of}
+use Rattle.vex_rows.specs.Row.{Row, IsRow, mark_of, opcode_of}
 use Rattle.vex_forms.specs.Gives.{gives}
 use Rattle.vex_decode.specs.Spelling.{Syntax, IsSyntax, bytes_of, meant, Spells}
 use Rattle.vex_decode.specs.Walk.{walk}
@@ -25,24 +25,34 @@ pub opcode_meant : (row : Row) (parts : Syntax) → (meant row parts).opcode ≡
 unfolding gives
 opcode_meant row parts = refl
 
+-- and its mark
+pub mark_meant : (row : Row) (parts : Syntax) → (meant row parts).evex ≡ mark_of row
+unfolding gives
+mark_meant row parts = refl
+
+-- so that the settings are asked for these
+pub permits_meant : (settings : List Bool) (row : Row) (parts : Syntax) (m : Meaning) → m ≡ meant row parts → permits settings m.evex m.opcode ≡ permits settings (mark_of row) (opcode_of row)
+permits_meant settings row parts m means =
+    ap (λ (m : Meaning). permits settings m.evex m.opcode) means
+    ∙ ap₂ (permits settings) (mark_meant row parts) (opcode_meant row parts)
+
 -- what a decode answers where a spelling stands first
 pub walk-spelling : (bytes rest : List ℕ) (m : Meaning) (spells : Spells bytes m) → walk (bytes ++ rest) ≡ Ok ((spells.row, spells.by.parts), rest)
 walk-spelling bytes rest m spells =
     ap (λ front. walk (front ++ rest)) spells.by.written ∙ walk-again spells.row spells.by.parts rest spells.is_row spells.by.fits
 
 -- a permitted opcode is not refused
-pub refused-permitted : (settings : List Bool) (bytes : List ℕ) (row : Row) (parts : Syntax) (rest : List ℕ) (step : Reading (Row × Syntax)) → step ≡ Ok ((row, parts), rest) → permits settings false (opcode_of row) ≡ true → refused settings bytes step ≡ None
+pub refused-permitted : (settings : List Bool) (bytes : List ℕ) (row : Row) (parts : Syntax) (rest : List ℕ) (step : Reading (Row × Syntax)) → step ≡ Ok ((row, parts), rest) → permits settings (mark_of row) (opcode_of row) ≡ true → refused settings bytes step ≡ None
 refused-permitted settings bytes row parts rest step e permitted = ap (refused settings bytes) e ∙ rw permitted refl
 
 -- bytes that begin with a spelling of a permitted meaning are not blocked
-pub begun-not_blocked : (settings : List Bool) (bytes rest : List ℕ) (m : Meaning) → Spells bytes m → permits settings false m.opcode ≡ true → blocked settings (bytes ++ rest) ≡ None
+pub begun-not_blocked : (settings : List Bool) (bytes rest : List ℕ) (m : Meaning) → Spells bytes m → permits settings m.evex m.opcode ≡ true → blocked settings (bytes ++ rest) ≡ None
 begun-not_blocked settings bytes rest m spells permitted =
-    let opcode : m.opcode ≡ opcode_of spells.row = ap (λ n. n.opcode) spells.by.means ∙ opcode_meant spells.row spells.by.parts in
     refused-permitted settings (bytes ++ rest) spells.row spells.by.parts rest (walk (bytes ++ rest)) (walk-spelling bytes rest m spells)
-    (subst (λ o. permits settings false o ≡ true) opcode permitted)
+    (sym (permits_meant settings spells.row spells.by.parts m spells.by.means) ∙ permitted)
 
 -- a spelling of a permitted meaning is not blocked
-pub spells-not_blocked : (settings : List Bool) (bytes : List ℕ) (m : Meaning) → Spells bytes m → permits settings false m.opcode ≡ true → blocked settings bytes ≡ None
+pub spells-not_blocked : (settings : List Bool) (bytes : List ℕ) (m : Meaning) → Spells bytes m → permits settings m.evex m.opcode ≡ true → blocked settings bytes ≡ None
 spells-not_blocked settings bytes m spells permitted =
     subst (λ b. blocked settings b ≡ None) (append-nil bytes) (begun-not_blocked settings bytes [] m spells permitted)
 
@@ -56,7 +66,7 @@ pub record Begun (settings : List Bool) (bytes : List ℕ) : Type 0 where
   pub walked : walk bytes ≡ Ok ((row, parts), rest)
   pub written : bytes ≡ bytes_of row parts ++ rest
   pub left : IsBytes rest
-  pub permitted : permits settings false (opcode_of row) ≡ true
+  pub permitted : permits settings (mark_of row) (opcode_of row) ≡ true
   pub front : take (taken bytes rest) bytes ≡ bytes_of row parts
   pub spells : Spells (take (taken bytes rest) bytes) (meant row parts)
 
@@ -70,10 +80,10 @@ take-taken front rest bytes e =
 pub record Admits (settings : List Bool) (step : Reading (Row × Syntax)) : Type 0 where
   pub read : (Row × Syntax) × List ℕ
   pub was : step ≡ Ok read
-  pub permitted : permits settings false (opcode_of read.0.0) ≡ true
+  pub permitted : permits settings (mark_of read.0.0) (opcode_of read.0.0) ≡ true
 
 admitted : (settings : List Bool) (bytes : List ℕ) (step : Reading (Row × Syntax)) → refused settings bytes step ≡ None → Admits settings step
-admitted settings bytes (Ok read) e = record { read = read; was = refl; permitted = by (permits settings false (opcode_of read.0.0)) e } where
+admitted settings bytes (Ok read) e = record { read = read; was = refl; permitted = by (permits settings (mark_of read.0.0) (opcode_of read.0.0)) e } where
   by : (b : Bool) → ◌≡◌ {A = Option (DecodeError × ℕ)} (if b then None else Some (InvalidOpcode, taken bytes read.1)) None → b ≡ true
   by true h = refl
   by false h = cc

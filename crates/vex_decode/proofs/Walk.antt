@@ -6,7 +6,7 @@ use Rattle.std.proofs.lemmas.Bool.{eqb-true, eq-eqb}
 use Rattle.x86_opcode.specs.declared.Opcode.{Opcode}
 use Rattle.x86_operand.specs.Kind.{Kind, WithoutModRM}
 use Rattle.x86_address.specs.Bytes.{IsBytes}
-use Rattle.x86_address.specs.Place.{kind_of, place_bytes}
+use Rattle.x86_address.specs.Place.{place_bytes}
 use Rattle.x86_address.specs.Reading.{take_byte}
 use Rattle.x86_address.proofs.Reader.{Answers, Answers-ok, Answers-bind, ReadsByte, take_byte-written}
 use Rattle.vex_rows.specs.declared.entry.Entry.{Entry}
@@ -21,7 +21,7 @@ use Rattle.vex_rows.specs.declared.steps.Check.TheVariants.{V0, L0, Reg, Mem, Gr
 use Rattle.vex_rows.specs.Steps.{steps}
 use Rattle.vex_rows.specs.Groups.{groups}
 use Rattle.vex_rows.specs.Table.{table}
-use Rattle.vex_rows.specs.Row.{Row, Among, IsRow, kinds_of, is_register, is_memory, is_group, is_group_check, has_groups, group_choices, permits_choice, group_allowed, has_imm}
+use Rattle.vex_rows.specs.Row.{Row, Among, IsRow, is_memory, is_group, is_group_check, has_groups, group_choices, permits_choice, group_allowed, has_imm}
 use Rattle.vex_rows.specs.Tests.{is_prefix_check, is_modrm_check, is_late_check}
 use Rattle.vex_rows.specs.Row.Lists.{both-parts, from-list_all, list_all-each, found-find, find-only, among-append_left, among-append_right, among-append, from-map}
 use Rattle.vex_rows.specs.Row.Laws.{Chosen, chosen-row, row-chosen, checks_of}
@@ -39,7 +39,7 @@ use Rattle.vex_decode.specs.Spelling.{Syntax, imm_bytes, bytes_of, FitsRule, Fit
 use Rattle.vex_forms.specs.FormWalk.{passes, Operands, walk_form, row_of}
 use Rattle.vex_decode.specs.Walk.{read_prefix, key_of, entry_of, found, syntax_of, walk}
 use Rattle.vex_decode.proofs.Prefix.{is_one-bit, ReadsPrefix, read_prefix-again, read_prefix-written}
-use Rattle.vex_decode.proofs.Form.{ReadsForm, WritesForm, step_then, walk_form-again, walk_form-written}
+use Rattle.vex_decode.proofs.Form.{ReadsForm, WritesForm, step_then, walk_form-again, form-written}
 
 -- the checks of an orderly form
 pub record Orderly (entry : Entry) : Type 0 where
@@ -119,33 +119,34 @@ if_memory true t h = h refl
 if_memory false t h = refl
 
 module _ (row : Row) (s : Syntax) (chosen : Chosen row) (is : IsSyntax row s) where
-  passes_second : (c : Check) → Among c (steps row.entry.form).after_modrm → passes row.entry s.fields (kind_of s.place) s.reg c ≡ true
+  passes_second : (c : Check) → Among c (steps row.entry.form).after_modrm → passes row.entry s.fields row.kind s.reg c ≡ true
   passes_second V0 m = cc (from-list_all is_modrm_check V0 _ (orderly_checks row.entry).second m)
   passes_second L0 m = cc (from-list_all is_modrm_check L0 _ (orderly_checks row.entry).second m)
-  passes_second Reg m = subst (λ k. is_register k ≡ true) (sym is.kind) (chosen_second row s chosen is Reg m)
-  passes_second Mem m = subst (λ k. is_memory k ≡ true) (sym is.kind) (chosen_second row s chosen is Mem m)
+  passes_second Reg m = chosen_second row s chosen is Reg m
+  passes_second Mem m = chosen_second row s chosen is Mem m
   passes_second Group m =
       let has : has_groups row.entry.form ≡ true = has_groups-checked row m in
       subst (λ l. is_group (groups row.entry.form l) s.reg ≡ true) (sym is.l)
       (group_by row.entry.form row.l s.reg row.group has chosen.group (chosen_second row s chosen is Group m) is.group)
   passes_second VifMem m = cc (from-list_all is_modrm_check VifMem _ (orderly_checks row.entry).second m)
 
-  passes_third : (c : Check) → Among c (steps row.entry.form).after_address → passes row.entry s.fields (kind_of s.place) s.reg c ≡ true
+  passes_third : (c : Check) → Among c (steps row.entry.form).after_address → passes row.entry s.fields row.kind s.reg c ≡ true
   passes_third V0 m = cc (from-list_all is_late_check V0 _ (orderly_checks row.entry).third m)
   passes_third L0 m = cc (from-list_all is_late_check L0 _ (orderly_checks row.entry).third m)
-  passes_third Reg m = subst (λ k. is_register k ≡ true) (sym is.kind) (chosen_third row s chosen is Reg m)
+  passes_third Reg m = chosen_third row s chosen is Reg m
   passes_third Mem m = cc (from-list_all is_late_check Mem _ (orderly_checks row.entry).third m)
   passes_third Group m = cc (from-list_all is_late_check Group _ (orderly_checks row.entry).third m)
-  passes_third VifMem m = if_memory (is_memory (kind_of s.place)) (s.fields.v == 0) (λ memory. v_third row s chosen is VifMem m (subst (λ k. is_memory k ≡ true) is.kind memory))
+  passes_third VifMem m = if_memory (is_memory row.kind) (s.fields.v == 0) (λ memory. v_third row s chosen is VifMem m memory)
 
   -- what the form of a row writes passes its steps
-  writes_form : WritesForm row.entry s.fields (record { reg = s.reg; place = s.place; imm = s.imm })
+  writes_form : WritesForm row.entry s.fields (record { kind = row.kind; reg = s.reg; place = s.place; imm = s.imm })
   unfolding has_imm
   writes_form = record {
     first = list_all-each _ _ (passes_first row s chosen is);
     second = list_all-each _ _ passes_second;
     third = list_all-each _ _ passes_third;
-    kind = subst (λ k. Among k (kinds_of row.entry.form)) (sym is.kind) chosen.kind;
+    kind = chosen.kind;
+    of_kind = is.kind;
     reg = is.reg;
     place = is.place;
     imm = is.imm;
@@ -221,7 +222,7 @@ unfolding walk has_imm
 walk-again row s rest is_row is =
     let chosen = chosen-row row is_row in
     let after : List ℕ = place_bytes s.reg s.place ++ (imm_bytes (has_imm row) s.imm ++ rest) in
-    let operands : Operands = record { reg = s.reg; place = s.place; imm = s.imm } in
+    let operands : Operands = record { kind = row.kind; reg = s.reg; place = s.place; imm = s.imm } in
     let w : allows row.entry.w s.fields.w ≡ true = subst (λ w. allows row.entry.w w ≡ true) (sym is.w) chosen.w in
     let l : allows row.entry.l (s.fields.l == 1) ≡ true = subst (λ l. allows row.entry.l (l == 1) ≡ true) (sym is.l) chosen.l in
     let found_is = entry_of-again row.entry s.fields chosen.listed is.map is.pp w l in
@@ -230,7 +231,7 @@ walk-again row s rest is_row is =
     ∙ step_then (read_prefix (prefix_bytes s.form s.fields ++ row.entry.byte ∷ after)) _ ((s.form, s.fields), row.entry.byte ∷ after) _ (read_prefix-again s.form s.fields (row.entry.byte ∷ after) is.prefix)
     (step_then (found (entry_of (key_of s.fields row.entry.byte)) after) _ (row.entry, after) _ (ap (λ o. found o after) found_is)
     (step_then (walk_form row.entry s.fields after) _ (operands, rest) _ (walk_form-again row.entry s.fields operands rest (writes_form row s chosen is))
-    (λ i. Ok ((record { entry = row.entry; w = is.w i; l = is.l i; kind = is.kind i; group = group i }, s), rest))))
+    (λ i. Ok ((record { entry = row.entry; w = is.w i; l = is.l i; kind = row.kind; group = group i }, s), rest))))
 
 -- what a decode has read, and how it was written
 pub record Walked (bytes : List ℕ) (row : Row) (s : Syntax) (rest : List ℕ) : Type 0 where
@@ -303,7 +304,7 @@ module _ (entry : Entry) (form : PrefixForm) (f : Fields) (byte : ℕ) (bytes : 
     (is_prefix : IsPrefix form f) (finds : Finds entry f byte) (reads : ReadsForm entry f bytes read rest) where
   group_checked : has_groups entry.form ≡ true → is_group (groups entry.form f.l) read.reg ≡ true
   unfolding has_groups
-  group_checked h = group_passed entry f (kind_of read.place) read.reg (steps entry.form).after_modrm h reads.second
+  group_checked h = group_passed entry f read.kind read.reg (steps entry.form).after_modrm h reads.second
 
   choice_first : (c : Check) → Among c (steps entry.form).before_modrm → permits_choice (row_of entry f read) c ≡ true
   choice_first V0 m = refl
@@ -316,15 +317,15 @@ module _ (entry : Entry) (form : PrefixForm) (f : Fields) (byte : ℕ) (bytes : 
   choice_second : (c : Check) → Among c (steps entry.form).after_modrm → permits_choice (row_of entry f read) c ≡ true
   choice_second V0 m = refl
   choice_second L0 m = cc (from-list_all is_modrm_check L0 _ (orderly_checks entry).second m)
-  choice_second Reg m = from-list_all (passes entry f (kind_of read.place) read.reg) Reg _ reads.second m
-  choice_second Mem m = from-list_all (passes entry f (kind_of read.place) read.reg) Mem _ reads.second m
-  choice_second Group m = allowed_read (has_groups entry.form) entry.form f.l read.reg (from-list_all (passes entry f (kind_of read.place) read.reg) Group _ reads.second m)
+  choice_second Reg m = from-list_all (passes entry f read.kind read.reg) Reg _ reads.second m
+  choice_second Mem m = from-list_all (passes entry f read.kind read.reg) Mem _ reads.second m
+  choice_second Group m = allowed_read (has_groups entry.form) entry.form f.l read.reg (from-list_all (passes entry f read.kind read.reg) Group _ reads.second m)
   choice_second VifMem m = refl
 
   choice_third : (c : Check) → Among c (steps entry.form).after_address → permits_choice (row_of entry f read) c ≡ true
   choice_third V0 m = refl
   choice_third L0 m = cc (from-list_all is_late_check L0 _ (orderly_checks entry).third m)
-  choice_third Reg m = from-list_all (passes entry f (kind_of read.place) read.reg) Reg _ reads.third m
+  choice_third Reg m = from-list_all (passes entry f read.kind read.reg) Reg _ reads.third m
   choice_third Mem m = cc (from-list_all is_late_check Mem _ (orderly_checks entry).third m)
   choice_third Group m = cc (from-list_all is_late_check Group _ (orderly_checks entry).third m)
   choice_third VifMem m = refl
@@ -347,9 +348,9 @@ module _ (entry : Entry) (form : PrefixForm) (f : Fields) (byte : ℕ) (bytes : 
   }
 
   v_demanded : demanded (row_of entry f read) ≡ true → f.v ≡ 0
-  v_demanded h = elim (either_true (list_any (demands_v (kind_of read.place)) (steps entry.form).before_modrm) (list_any (demands_v (kind_of read.place)) (steps entry.form).after_address) h) [
-    | inl k ↦ v_passed_first entry f (kind_of read.place) (steps entry.form).before_modrm (orderly_checks entry).first k reads.first
-    | inr k ↦ v_passed_third entry f (kind_of read.place) read.reg (steps entry.form).after_address (orderly_checks entry).third k reads.third
+  v_demanded h = elim (either_true (list_any (demands_v read.kind) (steps entry.form).before_modrm) (list_any (demands_v read.kind) (steps entry.form).after_address) h) [
+    | inl k ↦ v_passed_first entry f read.kind (steps entry.form).before_modrm (orderly_checks entry).first k reads.first
+    | inr k ↦ v_passed_third entry f read.kind read.reg (steps entry.form).after_address (orderly_checks entry).third k reads.third
   ]
 
   syntax_read : IsSyntax (row_of entry f read) (syntax_of form f read)
@@ -362,7 +363,7 @@ module _ (entry : Entry) (form : PrefixForm) (f : Fields) (byte : ℕ) (bytes : 
     l = refl;
     reg = reads.reg;
     place = reads.place;
-    kind = refl;
+    kind = reads.of_kind;
     group = fits_group (has_groups entry.form) read.reg;
     v = fits_rule (v_rule (row_of entry f read)) f.v (λ zero. v_demanded (v_rule-zero (row_of entry f read) zero).1);
     imm = reads.imm;
@@ -375,7 +376,7 @@ walk-written bytes is =
     Answers-bind (λ v r. ReadsPrefix bytes (v, r)) _ (read_prefix bytes) _ (λ v r e. read_prefix-written bytes (v, r) is e) (λ prefix r1 reads_prefix.
     Answers-bind (ReadsByte r1) _ (take_byte r1) _ (take_byte-written r1 reads_prefix.left) (λ byte r2 reads_byte.
     Answers-bind (λ entry r. Finds entry prefix.1 byte × (r ≡ r2)) _ (found (entry_of (key_of prefix.1 byte)) r2) _ (found-finds prefix.1 byte r2) (λ entry r3 finds.
-    Answers-bind (ReadsForm entry prefix.1 r3) _ (walk_form entry prefix.1 r3) _ (walk_form-written entry prefix.1 r3 (subst IsBytes (sym finds.1) reads_byte.left)) (λ operands r4 reads.
+    Answers-bind (ReadsForm entry prefix.1 r3) _ (walk_form entry prefix.1 r3) _ (form-written entry prefix.1 r3 (subst IsBytes (sym finds.1) reads_byte.left)) (λ operands r4 reads.
     let row : Row = row_of entry prefix.1 operands in
     let s : Syntax = syntax_of prefix.0 prefix.1 operands in
     Answers-ok (λ read rest. Walked bytes read.0 read.1 rest) (row, s) r4 (record {

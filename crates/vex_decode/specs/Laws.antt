@@ -45,7 +45,7 @@ pub record BeginsPermitted (settings : List Bool) (bytes : List ℕ) : Type 0 wh
   pub begins : Begins front bytes
   pub m : Meaning
   pub spells : Spells front m
-  pub permitted : IsTrue (permits settings false m.opcode)
+  pub permitted : IsTrue (permits settings m.evex m.opcode)
 
 -- bytes are not blocked exactly where they begin with a permitted spelling
 abbrev pub BlockedOrBegun : Type 0

@@ -1,7 +1,7 @@
 -- The notes on the bytes that a decode has taken: the first and the last bit, and what stands there. Bits are counted
 -- from the first byte on; of each byte the lowest comes first. What a note says of a bit is of the bit as it stands in
 -- the byte.
-use Rattle.std.specs.Prelude.{ℕ, ◌+◌, ◌-◌, ◌*◌, ◌/◌, ◌%◌, ◌^◌, Bool, ◌==◌, List, [], ◌∷◌, ◌++◌, Option, Some, None, if◌then◌else◌}
+use Rattle.std.specs.Prelude.{ℕ, ◌+◌, ◌-◌, ◌/◌, ◌%◌, ◌^◌, Bool, ◌==◌, List, [], ◌∷◌, ◌++◌, Option, Some, None, if◌then◌else◌}
 use Rattle.x86_reader.specs.Sink.{Triple}
 use Rattle.x86_operand.specs.declared.note.Note.{Note}
 use Rattle.x86_operand.specs.declared.note.Note.TheVariants.{P0, P1, P2, P3, M1, M2, M3, MOther, R0, R1, X0, X1, B0, B1, L0, L1, W1, W0, PrefixEnd, OpcodeEnd}

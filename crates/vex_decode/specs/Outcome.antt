@@ -1,11 +1,11 @@
 -- All that is known of a decode at once. Private functions alone cite what stands here.
-use Rattle.std.specs.Prelude.{◌≡◌, ℕ, Bool, List, Result, Ok, Err}
+use Rattle.std.specs.Prelude.{Bool, List, Result, Ok, Err}
 use Rattle.x86_operand.specs.declared.error.DecodeError.{DecodeError}
 use Rattle.x86_operand.specs.declared.note.FieldDescription.{FieldDescription}
 use Rattle.x86_operand.specs.Meaning.{Decoded}
 use Rattle.x86_reader.specs.Reader.{ReaderState}
 use Rattle.x86_reader.specs.Sink.{SinkState}
-use Rattle.vex_decode.specs.Decoding.{TakesInstruction, TakesBlocked, CompletesDecode, BlocksSlice, NotesTaken, TakesRest, FailsRest, NotesRest}
+use Rattle.vex_decode.specs.Decoding.{TakesInstruction, TakesBlocked, CompletesDecode, BlocksSlice, NotesTaken}
 
 -- what was taken, by the answer
 abbrev pub Took : List Bool → ReaderState → ReaderState → Result Decoded DecodeError → Type 0

@@ -1,11 +1,10 @@
 pub use Rattle.vex_forms.specs.Written.{imm_bytes, FitsRule, FitsGroup, FitsReg, FitsImm}
-use Rattle.std.specs.Prelude.{◌≡◌, ℕ, ◌<◌, Bool, true, false, List, [], ◌∷◌, ◌++◌, Option, Some, None, if◌then◌else◌}
+use Rattle.std.specs.Prelude.{◌≡◌, ℕ, List, ◌∷◌, ◌++◌}
 use Rattle.x86_operand.specs.Meaning.{Meaning}
-use Rattle.x86_address.specs.Place.{Place, place_bytes, IsPlace, kind_of, target}
+use Rattle.x86_operand.specs.Kind.{is_vector}
+use Rattle.x86_address.specs.Place.{Place, place_bytes, IsPlace, IsOfKind, target}
 use Rattle.vex_rows.specs.Steps.{steps}
 use Rattle.vex_rows.specs.Row.{Row, IsRow, has_imm}
-use Rattle.vex_forms.specs.declared.slot.VvvvRule.{VvvvRule}
-use Rattle.vex_forms.specs.declared.slot.VvvvRule.TheVariants.{Named, Zero, Free}
 use Rattle.vex_forms.specs.Slots.{v_rule}
 use Rattle.vex_forms.specs.Gives.{gives}
 use Rattle.vex_forms.specs.Fields.{Fields}
@@ -25,9 +24,9 @@ pub record Syntax : Type 0 where
 abbrev pub bytes_of : Row → Syntax → List ℕ
 bytes_of row s = prefix_bytes s.form s.fields ++ row.entry.byte ∷ (place_bytes s.reg s.place ++ imm_bytes (has_imm row) s.imm)
 
--- what a spelling means
+-- what a spelling means: the row's kind says whether the index of an address is a vector register
 abbrev pub meant : Row → Syntax → Meaning
-meant row s = gives row s.fields.r s.fields.v s.reg (target s.place s.fields.x s.fields.b) s.imm
+meant row s = gives row s.fields.r s.fields.v s.reg (target (is_vector row.kind) s.place s.fields.x s.fields.b) s.imm
 
 -- the parts are those of a spelling by the row
 pub record IsSyntax (row : Row) (s : Syntax) : Type 0 where
@@ -38,7 +37,7 @@ pub record IsSyntax (row : Row) (s : Syntax) : Type 0 where
   pub l : s.fields.l ≡ row.l
   pub reg : FitsReg (steps row.entry.form).modrm s.reg
   pub place : IsPlace s.place
-  pub kind : kind_of s.place ≡ row.kind
+  pub kind : IsOfKind row.kind s.place
   pub group : FitsGroup row.group s.reg
   pub v : FitsRule (v_rule row) s.fields.v
   pub imm : FitsImm (has_imm row) s.imm

@@ -1,10 +1,8 @@
 -- What the code of a choice needs: checks of joined lists.
-use Rattle.std.specs.Prelude.{◌≡◌, refl, ℕ, Bool, true, false, ◌&&◌, ◌==◌, List, [], ◌∷◌, ◌++◌, find, Some, None, cond}
+use Rattle.std.specs.Prelude.{◌≡◌, refl, Bool, true, false, ◌&&◌, List, [], ◌∷◌, ◌++◌}
 use Rattle.std.specs.List.{list_all}
-use Rattle.std.proofs.Common.{ap}
-use Rattle.x86_opcode.specs.declared.Opcode.{Opcode}
 use Rattle.vex_rows.specs.declared.steps.Check.{Check}
-use Rattle.vex_rows.specs.Row.{Row, permits_choice, group_opcode}
+use Rattle.vex_rows.specs.Row.{Row, permits_choice}
 
 -- a test of joined lists
 list_all-append : {A : Type 0} (p : A → Bool) (xs ys : List A) → list_all p (xs ++ ys) ≡ (list_all p xs && list_all p ys)

@@ -1,13 +1,13 @@
 -- The rows are the choices that can be and exist.
-use Rattle.std.specs.Prelude.{◌≡◌, refl, ℕ, ◌<◌, ◌≤◌, Bool, true, false, not, ◌&&◌, ◌||◌, ◌==◌, nat_lt, List, [], ◌∷◌, ◌++◌, map, Option, Some, None, if◌then◌else◌}
+use Rattle.std.specs.Prelude.{◌≡◌, refl, ℕ, ◌<◌, ◌≤◌, Bool, true, false, ◌&&◌, ◌||◌, ◌==◌, nat_lt, List, [], ◌∷◌, ◌++◌, map, Option, Some, None, if◌then◌else◌}
 use Rattle.std.specs.List.{list_all, list_any}
 use Rattle.std.proofs.Common.{zero, suc, inl, inr, sym, ap, subst, arith, eqb-true, ltb-true}
 use Rattle.x86_opcode.specs.declared.Opcode.{Opcode}
-use Rattle.x86_operand.specs.Kind.{Kind, WithoutModRM, InRegister, InMemory}
 use Rattle.vex_rows.specs.declared.entry.Entry.{Entry}
 use Rattle.vex_rows.specs.declared.steps.Check.{Check}
 use Rattle.vex_rows.specs.declared.steps.Check.TheVariants.{V0, L0, Reg, Mem, Group, VifMem}
 use Rattle.vex_rows.specs.Rules.{allows}
+use Rattle.vex_rows.specs.FormRows.{gathers}
 use Rattle.vex_rows.specs.Steps.{steps}
 use Rattle.vex_rows.specs.Groups.{groups}
 use Rattle.vex_rows.specs.Table.{table}
@@ -16,6 +16,7 @@ use Rattle.vex_rows.specs.Groups.Laws.{small_groups}
 use Rattle.vex_rows.specs.Row.Lists.{from-map, from-list_all, both-parts, among-append_left, among-append_right}
 use Rattle.vex_rows.specs.Row.Laws.{chosen-row, row-chosen, checks_of}
 use Rattle.vex_forms.specs.Layout.{may_be, row_for}
+use Rattle.vex_forms.specs.Layout.Laws.{kind-again, may_be-again, kind-among}
 use Rattle.vex_forms.specs.Laws.{IsChoice}
 
 -- an L of one bit
@@ -23,19 +24,6 @@ one_bit-again : (l : ℕ) → l ≤ 1 → (if l == 1 then 1 else 0) ≡ l
 one_bit-again zero h = refl
 one_bit-again (suc zero) h = refl
 one_bit-again (suc (suc l)) h = absurd (omega arith)
-
--- a kind that a form may have
-kind-again : (modrm : Bool) (kind : Kind) → Among kind (if modrm then InRegister ∷ InMemory ∷ [] else WithoutModRM ∷ []) → (if modrm then (if is_memory kind then InMemory else InRegister) else WithoutModRM) ≡ kind
-kind-again true kind (inl e) = subst (λ k. (if is_memory k then InMemory else InRegister) ≡ k) (sym e) refl
-kind-again true kind (inr (inl e)) = subst (λ k. (if is_memory k then InMemory else InRegister) ≡ k) (sym e) refl
-kind-again true kind (inr (inr m)) = absurd m
-kind-again false kind (inl e) = sym e
-kind-again false kind (inr m) = absurd m
-
-memory-may_be : (modrm : Bool) (kind : Kind) → Among kind (if modrm then InRegister ∷ InMemory ∷ [] else WithoutModRM ∷ []) → (modrm || not (is_memory kind)) ≡ true
-memory-may_be true kind m = refl
-memory-may_be false kind (inl e) = subst (λ k. not (is_memory k) ≡ true) (sym e) refl
-memory-may_be false kind (inr m) = absurd m
 
 -- a reg field that a form may have
 group-again : (grouped : Bool) (gs : List (ℕ × Opcode)) (group : Option ℕ) → Among group (if grouped then map (λ g. Some g.0) gs else None ∷ []) → list_all (λ g. nat_lt g.0 8) gs ≡ true → (reg : ℕ) × (reg < 8) × ((if grouped then Some reg else None) ≡ group)
@@ -51,26 +39,20 @@ row-is_choice row m =
     let chosen = chosen-row row m in
     let field = group-again (has_groups row.entry.form) (groups row.entry.form row.l) row.group chosen.group (small_groups row.entry.form row.l) in
     let at_l = one_bit-again row.l chosen.one_bit in
-    let at_kind = kind-again (steps row.entry.form).modrm row.kind chosen.kind in
+    let at_kind = kind-again (gathers row.entry.form) (steps row.entry.form).modrm row.kind chosen.kind in
     record {
       l = row.l == 1;
       memory = is_memory row.kind;
       group = field.0;
       small = field.1;
       row_is = λ i. record { entry = row.entry; w = row.w; l = sym at_l i; kind = sym at_kind i; group = sym field.2 i };
-      may_be = memory-may_be (steps row.entry.form).modrm row.kind chosen.kind;
+      may_be = may_be-again (gathers row.entry.form) (steps row.entry.form).modrm row.kind chosen.kind;
     }
 
 -- an L as a number
 bit_at_most_one : (l : Bool) → (if l then 1 else 0) ≤ 1
 bit_at_most_one true = omega arith
 bit_at_most_one false = omega arith
-
--- a kind that may be is one of the form's
-kind-among : (modrm memory : Bool) → (modrm || not memory) ≡ true → Among (if modrm then (if memory then InMemory else InRegister) else WithoutModRM) (if modrm then InRegister ∷ InMemory ∷ [] else WithoutModRM ∷ [])
-kind-among true true h = inr (inl refl)
-kind-among true false h = inl refl
-kind-among false memory h = inl refl
 
 -- a reg field that is one of the groups
 group-among : (gs : List (ℕ × Opcode)) (reg : ℕ) → is_group gs reg ≡ true → Among (Some reg) (map (λ g. Some g.0) gs)
@@ -121,7 +103,7 @@ choice-is_row entry w l memory group m may there =
       w = rules.0;
       l = rules.1;
       one_bit = bit_at_most_one l;
-      kind = kind-among (steps entry.form).modrm memory may;
+      kind = kind-among (gathers entry.form) (steps entry.form).modrm memory may;
       group = field-among (has_groups entry.form) (groups entry.form row.l) group field;
       checks = both.1;
     })

@@ -1,15 +1,14 @@
 -- The row that was chosen has a layout, and the instruction that is made of it is the one that the row gives.
-use Rattle.std.specs.Prelude.{◌≡◌, refl, ℕ, Bool, true, false, not, ◌&&◌, ◌||◌, List, [], ◌∷◌, Ok, Option, Some, None, IsSome, if◌then◌else◌}
-use Rattle.std.proofs.Common.{ap, ap₂, sym, ◌∙◌, inl, inr, subst}
-use Rattle.x86_operand.specs.Kind.{Kind, WithoutModRM, InRegister, InMemory}
+use Rattle.std.specs.Prelude.{◌≡◌, refl, Bool, true, false, ◌&&◌, [], Ok, Option, Some, None, IsSome, if◌then◌else◌}
+use Rattle.std.proofs.Common.{ap, ap₂, ◌∙◌}
 use Rattle.x86_operand.specs.Meaning.{Decoded}
 use Rattle.x86_address.specs.Bytes.{bit}
-use Rattle.x86_address.specs.Place.{kind_of, target}
 use Rattle.x86_address.specs.Follows.{Follows}
 use Rattle.x86_address.specs.Follows.Laws.{takes_all}
 use Rattle.x86_reader.specs.Reader.{ReaderState}
 use Rattle.vex_rows.specs.declared.entry.Entry.{Entry}
 use Rattle.vex_rows.specs.declared.key.Prefix.{Prefix}
+use Rattle.vex_rows.specs.FormRows.{gathers}
 use Rattle.vex_rows.specs.Steps.{steps}
 use Rattle.vex_rows.specs.Row.{Row, Among, kinds_of, exists, is_memory}
 use Rattle.vex_rows.specs.Row.Lists.{parts-both}
@@ -20,6 +19,7 @@ use Rattle.vex_forms.specs.FormWalk.{Operands, walk_form, row_of}
 use Rattle.vex_forms.specs.FormWalk.Laws.{Passed, walk_form-passed, chosen_exists}
 use Rattle.vex_forms.specs.Gives.{gives}
 use Rattle.vex_forms.specs.Layout.{IsLayout, group_for, may_be, row_for}
+use Rattle.vex_forms.specs.Layout.Laws.{kind-again, may_be-again, is_memory-plain}
 use Rattle.vex_forms.specs.Operands.{target_seen}
 use Rattle.vex_forms.specs.Reads.{HasPrefix, IsOperands, IsInstruction, kind_of_e}
 
@@ -27,19 +27,6 @@ use Rattle.vex_forms.specs.Reads.{HasPrefix, IsOperands, IsInstruction, kind_of_
 pub none_there : {A : Type 0} (o : Option A) → IsSome o → o ≡ None → ⊥
 none_there None there none = cc
 none_there (Some value) there none = cc
-
--- the kind of operand says whether it is in memory, where the form has it
-kind-again : (modrm : Bool) (kind : Kind) → Among kind (if modrm then InRegister ∷ InMemory ∷ [] else WithoutModRM ∷ []) → (if modrm then (if is_memory kind then InMemory else InRegister) else WithoutModRM) ≡ kind
-kind-again true kind (inl e) = subst (λ k. (if is_memory k then InMemory else InRegister) ≡ k) (sym e) refl
-kind-again true kind (inr (inl e)) = subst (λ k. (if is_memory k then InMemory else InRegister) ≡ k) (sym e) refl
-kind-again true kind (inr (inr m)) = absurd m
-kind-again false kind (inl e) = sym e
-kind-again false kind (inr m) = absurd m
-
-may_be-again : (modrm : Bool) (kind : Kind) → Among kind (if modrm then InRegister ∷ InMemory ∷ [] else WithoutModRM ∷ []) → (modrm || not (is_memory kind)) ≡ true
-may_be-again true kind m = refl
-may_be-again false kind (inl e) = subst (λ k. not (is_memory k) ≡ true) (sym e) refl
-may_be-again false kind (inr m) = absurd m
 
 bit_is : (b : Bool) → (if b then 1 else 0) ≡ bit b
 bit_is true = refl
@@ -50,20 +37,20 @@ passed_of : {entry : Entry} {prefix : Prefix} {fields : OperandFields} {old new 
 passed_of {entry} {prefix} {fields} f = walk_form-passed entry (fields_of prefix) f.bytes (f.answers.0, []) (takes_all fields f)
 
 -- the row at the kind of the operand E and the reg field is the row that was chosen
-pub row_again : (entry : Entry) (prefix : Prefix) (operands : Operands) → Among (kind_of operands.place) (kinds_of entry.form)
-    → row_for entry prefix.w prefix.l (is_memory (kind_of operands.place)) operands.reg ≡ row_of entry (fields_of prefix) operands
+pub row_again : (entry : Entry) (prefix : Prefix) (operands : Operands) → Among operands.kind (kinds_of entry.form)
+    → row_for entry prefix.w prefix.l (is_memory operands.kind) operands.reg ≡ row_of entry (fields_of prefix) operands
 row_again entry prefix operands among =
-    let kind = kind-again (steps entry.form).modrm (kind_of operands.place) among in
+    let kind = kind-again (gathers entry.form) (steps entry.form).modrm operands.kind among in
     λ i. record { entry = entry; w = prefix.w; l = bit_is prefix.l i; kind = kind i; group = group_for entry.form operands.reg }
 
 -- and it can be
-pub may_again : (entry : Entry) (operands : Operands) → Among (kind_of operands.place) (kinds_of entry.form) → may_be entry (is_memory (kind_of operands.place)) ≡ true
-may_again entry operands among = may_be-again (steps entry.form).modrm (kind_of operands.place) among
+pub may_again : (entry : Entry) (operands : Operands) → Among operands.kind (kinds_of entry.form) → may_be entry (is_memory operands.kind) ≡ true
+may_again entry operands among = may_be-again (gathers entry.form) (steps entry.form).modrm operands.kind among
 
 module _ (entry : Entry) (prefix : Prefix) (fields : OperandFields) {old new : ReaderState} {memory : Bool}
     (f : Follows (walk_form entry (fields_of prefix)) (IsOperands prefix) old new (Ok fields)) (memory_is : memory ≡ is_memory (kind_of_e fields.e)) where
-  in_memory : memory ≡ is_memory (kind_of f.answers.0.place)
-  in_memory = memory_is ∙ ap is_memory f.answers.1.e.kind
+  in_memory : memory ≡ is_memory f.answers.0.kind
+  in_memory = memory_is ∙ ap is_memory (f.answers.1.e.kind ∙ (passed_of f).place.plain) ∙ is_memory-plain f.answers.0.kind
 
   row_is : row_for entry prefix.w prefix.l memory fields.reg ≡ row_of entry (fields_of prefix) f.answers.0
   row_is = ap₂ (λ m reg. row_for entry prefix.w prefix.l m reg) in_memory f.answers.1.reg ∙ row_again entry prefix f.answers.0 (passed_of f).kind

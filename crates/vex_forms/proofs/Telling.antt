@@ -1,5 +1,5 @@
 -- What a call that follows the walk of a form says to its caller.
-use Rattle.std.specs.Prelude.{◌≡◌, ◌≢◌, refl, ◌⊎◌, ℕ, ◌/◌, ◌%◌, Bool, true, false, not, ◌&&◌, ◌||◌, ◌==◌, List, [], ◌∷◌, ◌++◌, length, Some, None, Result, Ok, Err, IfOk, IfErr, if◌then◌else◌}
+use Rattle.std.specs.Prelude.{◌≡◌, ◌≢◌, refl, ◌⊎◌, ℕ, ◌/◌, ◌%◌, Bool, true, false, ◌||◌, ◌==◌, List, [], ◌∷◌, ◌++◌, Some, Result, Ok, Err, IfOk, IfErr, if◌then◌else◌}
 use Rattle.std.specs.List.{list_all, list_any}
 use Rattle.std.proofs.Common.{ap, sym, ◌∙◌, inl, inr, subst, arith, append-nil}
 use Rattle.std.proofs.lemmas.Bool.{eqb-true}
@@ -8,9 +8,9 @@ use Rattle.x86_operand.specs.declared.error.DecodeError.{DecodeError}
 use Rattle.x86_operand.specs.declared.error.DecodeError.TheVariants.{Outside}
 use Rattle.x86_operand.specs.Kind.{Kind, WithoutModRM}
 use Rattle.x86_operand.specs.Meaning.{Decoded}
-use Rattle.x86_reader.specs.Reader.{ReaderState, IsByte, Passes}
+use Rattle.x86_reader.specs.Reader.{ReaderState, IsByte}
 use Rattle.x86_address.specs.Bytes.{IsBytes}
-use Rattle.x86_address.specs.Place.{Place, kind_of, place_bytes}
+use Rattle.x86_address.specs.Place.{place_bytes}
 use Rattle.x86_address.specs.Laws.{ReadingIsSpelling, ReadingFails}
 use Rattle.x86_address.specs.Reading.{Reading, ◌>>=◌, take_byte, take_place}
 use Rattle.x86_address.specs.Follows.{Follows}
@@ -28,9 +28,9 @@ use Rattle.vex_forms.specs.declared.slot.VvvvRule.{VvvvRule}
 use Rattle.vex_forms.specs.declared.slot.VvvvRule.TheVariants.{Named, Zero, Free}
 use Rattle.vex_forms.specs.Slots.{demands_v, v_rule}
 use Rattle.vex_forms.specs.Fields.{Fields, fields_of}
-use Rattle.vex_forms.specs.FormWalk.{Operands, passes, refusal, check_all, kind_of_mod, take_imm, place_by, walk_modrm, walk_alone, walk_form, row_of}
-use Rattle.vex_forms.specs.FormWalk.Laws.{Passed, Ordered, ordered, walk_form-passed, chosen_exists, most_form, walk_form-written}
-use Rattle.vex_forms.specs.Written.{imm_bytes, FitsRule, FitsImm, WritesForm}
+use Rattle.vex_forms.specs.FormWalk.{Operands, passes, refusal, check_all, kind_by, take_imm, place_by, walk_modrm, walk_form, row_of}
+use Rattle.vex_forms.specs.FormWalk.Laws.{Passed, ordered, walk_form-passed, chosen_exists, most_form, walk_form-written}
+use Rattle.vex_forms.specs.Written.{FitsRule, WritesForm}
 use Rattle.vex_forms.specs.Reads.{HasPrefix, IsInstruction, TakesForm, FailsForm}
 use Rattle.vex_forms.proofs.Choosing.{choice-is_row}
 use Rattle.vex_forms.proofs.Instructing.{row_again, may_again}
@@ -98,9 +98,9 @@ inside_imm has = inside_if has _ _ inside_byte (inside_ok _)
 inside_modrm : ReadingFails → (entry : Entry) (f : Fields) (form : FormSteps) → Inside (walk_modrm entry f form)
 inside_modrm fails entry f form =
     inside_then take_byte _ inside_byte (λ modrm.
-    inside_then (check_all entry f (kind_of_mod (modrm / 64)) ((modrm / 8) % 8) form.after_modrm) _ (inside_checks entry f _ _ form.after_modrm) (λ second.
+    inside_then (check_all entry f (kind_by entry modrm) ((modrm / 8) % 8) form.after_modrm) _ (inside_checks entry f _ _ form.after_modrm) (λ second.
     inside_then (place_by form.address (modrm / 64) (modrm % 8)) _ (inside_if form.address _ _ (inside_place fails (modrm / 64) (modrm % 8)) (inside_ok _)) (λ place.
-    inside_then (check_all entry f (kind_of_mod (modrm / 64)) ((modrm / 8) % 8) form.after_address) _ (inside_checks entry f _ _ form.after_address) (λ third.
+    inside_then (check_all entry f (kind_by entry modrm) ((modrm / 8) % 8) form.after_address) _ (inside_checks entry f _ _ form.after_address) (λ third.
     inside_then (take_imm form.imm) _ (inside_imm form.imm) (λ imm. inside_ok _)))))
 
 inside_form : ReadingFails → (entry : Entry) (f : Fields) → Inside (walk_form entry f)
@@ -145,16 +145,16 @@ fits_rule Free v h = tt
 module _ (place_read : ReadingIsSpelling) (entry : Entry) (prefix : Prefix) (listed : Among entry table) (has : HasPrefix entry (fields_of prefix)) where
   module _ (operands : Operands) (passed : Passed entry (fields_of prefix) operands) where
     v_demanded : demanded (row_of entry (fields_of prefix) operands) ≡ true → prefix.vvvv ≡ 0
-    v_demanded h = elim (either_true (list_any (demands_v (kind_of operands.place)) (steps entry.form).before_modrm) (list_any (demands_v (kind_of operands.place)) (steps entry.form).after_address) h) [
-      | inl k ↦ v_before entry (fields_of prefix) (kind_of operands.place) (steps entry.form).before_modrm (ordered entry).before_modrm k passed.before_modrm
-      | inr k ↦ v_after entry (fields_of prefix) (kind_of operands.place) operands.reg (steps entry.form).after_address (ordered entry).after_address k passed.after_address
+    v_demanded h = elim (either_true (list_any (demands_v operands.kind) (steps entry.form).before_modrm) (list_any (demands_v operands.kind) (steps entry.form).after_address) h) [
+      | inl k ↦ v_before entry (fields_of prefix) operands.kind (steps entry.form).before_modrm (ordered entry).before_modrm k passed.before_modrm
+      | inr k ↦ v_after entry (fields_of prefix) operands.kind operands.reg (steps entry.form).after_address (ordered entry).after_address k passed.after_address
     ]
 
     row_is_row : IsRow (row_of entry (fields_of prefix) operands)
     row_is_row =
         let is = row_again entry prefix operands passed.kind in
         let there = ap exists is ∙ chosen_exists entry (fields_of prefix) operands passed has.w has.l in
-        subst IsRow is (choice-is_row entry prefix.w prefix.l (is_memory (kind_of operands.place)) operands.reg listed (may_again entry operands passed.kind) there)
+        subst IsRow is (choice-is_row entry prefix.w prefix.l (is_memory operands.kind) operands.reg listed (may_again entry operands passed.kind) there)
 
   writes_form : (bytes : List ℕ) (operands : Operands) → IsBytes bytes → walk_form entry (fields_of prefix) bytes ≡ Ok (operands, []) → WritesForm entry (fields_of prefix) operands bytes
   unfolding has_imm
@@ -165,6 +165,7 @@ module _ (place_read : ReadingIsSpelling) (entry : Entry) (prefix : Prefix) (lis
         is_row = row_is_row operands passed;
         reg = writes.reg;
         place = writes.place;
+        kind = passed.place;
         v = fits_rule (v_rule (row_of entry (fields_of prefix) operands)) prefix.vvvv (λ zero. v_demanded operands passed (v_rule-zero (row_of entry (fields_of prefix) operands) zero).1);
         imm = writes.imm;
         written = writes.written ∙ ap (λ last. place_bytes operands.reg operands.place ++ last) (append-nil _);

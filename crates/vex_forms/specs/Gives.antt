@@ -1,10 +1,10 @@
-use Rattle.std.specs.Prelude.{ℕ, ◌+◌, ◌*◌, ◌/◌, false, map}
+use Rattle.std.specs.Prelude.{ℕ, ◌+◌, ◌*◌, ◌/◌, map}
 use Rattle.std.specs.Int.{cast_signed, w8}
 use Rattle.x86_operand.specs.declared.register.RegisterBank.{RegisterBank}
 use Rattle.x86_operand.specs.Meaning.{OperandMeaning, register, signed, unsigned, memory, nothing, Meaning}
 use Rattle.x86_address.specs.Place.{Target, NoTarget, Number, At}
 use Rattle.x86_address.specs.Shortest.{in_banks}
-use Rattle.vex_rows.specs.Row.{Row, opcode_of}
+use Rattle.vex_rows.specs.Row.{Row, mark_of, opcode_of}
 use Rattle.vex_forms.specs.declared.slot.Slot.{Slot}
 use Rattle.vex_forms.specs.declared.slot.Slot.TheVariants.{G, V, E, U8, I8, R4}
 use Rattle.vex_forms.specs.Slots.{slots, index_bank, size_of}
@@ -28,7 +28,7 @@ slot_operand index_bank r v reg e imm (R4 bank) = register (record { bank = bank
 -- what a row means with the prefix fields r and v, the field reg, the target e and the immediate byte
 unfoldable pub gives : Row → ℕ → ℕ → ℕ → Target → ℕ → Meaning
 gives row r v reg e imm = record {
-  evex = false;
+  evex = mark_of row;
   opcode = opcode_of row;
   operands = map (slot_operand (index_bank row) r v reg e imm) (slots row);
   size = size_of row;

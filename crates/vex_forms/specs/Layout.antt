@@ -1,17 +1,20 @@
 -- The row of an entry that a caller chooses, and what the layout of a row shows.
+pub mod Laws
 use Rattle.std.specs.Prelude.{◌≡◌, ℕ, ◌≤◌, Bool, not, ◌||◌, Option, Some, None, if◌then◌else◌}
-use Rattle.x86_operand.specs.Kind.{Kind, WithoutModRM, InRegister, InMemory}
+use Rattle.x86_operand.specs.Kind.{Kind, WithoutModRM, InRegister, is_vector, memory_kind}
 use Rattle.vex_rows.specs.declared.entry.Entry.{Entry}
 use Rattle.vex_rows.specs.declared.form.Form.{Form}
+use Rattle.vex_rows.specs.FormRows.{gathers}
 use Rattle.vex_rows.specs.Steps.{steps}
 use Rattle.vex_rows.specs.Row.{Row, row_at, opcode_of, has_groups, has_imm}
 use Rattle.vex_forms.specs.declared.choice.Choice.{Choice}
 use Rattle.vex_forms.specs.declared.row_layout.RowLayout.{RowLayout}
 use Rattle.vex_forms.specs.Slots.{slots, index_bank, size_of, v_rule}
 
--- the kind of the operand E: memory or a register, and that without ModRM where the form has none
+-- the kind of the operand E: memory, whose index is a vector register where the form gathers, or a register, and that
+-- without ModRM where the form has none
 abbrev pub kind_for : Form → Bool → Kind
-kind_for form memory = if (steps form).modrm then (if memory then InMemory else InRegister) else WithoutModRM
+kind_for form memory = if (steps form).modrm then (if memory then memory_kind (gathers form) else InRegister) else WithoutModRM
 
 -- the reg field of a row, where its form has groups
 abbrev pub group_for : Form → ℕ → Option ℕ
@@ -40,6 +43,7 @@ pub record IsLayout (row : Row) (layout : RowLayout) : Type 0 where
   pub slots : layout.slots.items ≡ slots row
   pub vvvv : layout.vvvv ≡ v_rule row
   pub mem_size : layout.mem_size ≡ size_of row
+  pub vector : layout.vector ≡ is_vector row.kind
   pub index_bank : layout.index_bank ≡ index_bank row
   pub has_modrm : layout.has_modrm ≡ (steps row.entry.form).modrm
   pub group : layout.group ≡ row.group

@@ -4,7 +4,7 @@ use Rattle.std.specs.Prelude.{◌≡◌, ◌≤◌, ◌==◌, ℕ, Bool, true, L
 use Rattle.x86_operand.specs.declared.error.DecodeError.{DecodeError}
 use Rattle.x86_reader.specs.Reader.{ReaderState, Takes, Passes}
 use Rattle.x86_address.specs.Follows.{Refused}
-use Rattle.x86_operand.specs.Kind.{Kind, WithoutModRM, InRegister, InMemory}
+use Rattle.x86_operand.specs.Kind.{Kind, WithoutModRM, InRegister, InMemory, VectorIndexed, is_vector}
 use Rattle.x86_operand.specs.Meaning.{Decoded}
 use Rattle.x86_address.specs.Place.{Place, kind_of, target}
 use Rattle.vex_rows.specs.declared.entry.Entry.{Entry}
@@ -33,17 +33,18 @@ abbrev pub kind_seen : CodeKind → Kind
 kind_seen code.WithoutModRM = WithoutModRM
 kind_seen code.Register = InRegister
 kind_seen code.Memory = InMemory
+kind_seen code.Vector = VectorIndexed
 
--- the kind of an operand E
+-- the kind of an operand E, whatever index an address has
 abbrev pub kind_of_e : OperandE → Kind
 kind_of_e Absent = WithoutModRM
 kind_of_e (Register num) = InRegister
 kind_of_e (Memory address) = InMemory
 
--- the operand E is what the place names, with the bits X and B
-pub record IsOperandE (x b : Bool) (place : Place) (e : OperandE) : Type 0 where
+-- the operand E is what the place names, with the bits X and B, and by whether its index is a vector register
+pub record IsOperandE (vector x b : Bool) (place : Place) (e : OperandE) : Type 0 where
   pub kind : kind_of_e e ≡ kind_of place
-  pub target : target_seen e ≡ target place x b
+  pub target : target_seen e ≡ target vector place x b
   pub number : NumberFits e
   pub banks : BanksFit e
 
@@ -52,12 +53,12 @@ pub record IsOperands (prefix : Prefix) (operands : Operands) (fields : OperandF
   pub r : fields.r ≡ prefix.r
   pub vvvv : fields.vvvv ≡ prefix.vvvv
   pub reg : fields.reg ≡ operands.reg
-  pub e : IsOperandE prefix.x prefix.b operands.place fields.e
+  pub e : IsOperandE (is_vector operands.kind) prefix.x prefix.b operands.place fields.e
   pub imm : fields.imm ≡ operands.imm
 
 -- the instruction means what the row that was chosen gives, and its length is 0
 pub record IsInstruction (entry : Entry) (f : Fields) (operands : Operands) (instruction : Decoded) : Type 0 where
-  pub meaning : instruction.meaning ≡ gives (row_of entry f operands) f.r f.v operands.reg (target operands.place f.x f.b) operands.imm
+  pub meaning : instruction.meaning ≡ gives (row_of entry f operands) f.r f.v operands.reg (target (is_vector operands.kind) operands.place f.x f.b) operands.imm
   pub length : instruction.len ≡ 0
 
 -- the reader gave at most seven bytes, over which no step of the form fails: those of the operands in a spelling by the

@@ -1,6 +1,6 @@
 -- What the bytes after the opcode byte are of an instruction: the parts that a row asks for, and how they are written.
 use Rattle.std.specs.Prelude.{◌≡◌, ℕ, ◌<◌, Bool, true, false, List, [], ◌∷◌, ◌++◌, Option, Some, None, if◌then◌else◌}
-use Rattle.x86_address.specs.Place.{IsPlace, place_bytes}
+use Rattle.x86_address.specs.Place.{IsPlace, IsOfKind, place_bytes}
 use Rattle.vex_rows.specs.declared.entry.Entry.{Entry}
 use Rattle.vex_rows.specs.Steps.{steps}
 use Rattle.vex_rows.specs.Row.{IsRow, has_imm}
@@ -41,6 +41,7 @@ pub record WritesForm (entry : Entry) (f : Fields) (operands : Operands) (bytes 
   pub is_row : IsRow (row_of entry f operands)
   pub reg : FitsReg (steps entry.form).modrm operands.reg
   pub place : IsPlace operands.place
+  pub kind : IsOfKind operands.kind operands.place
   pub v : FitsRule (v_rule (row_of entry f operands)) f.v
   pub imm : FitsImm (has_imm (row_of entry f operands)) operands.imm
   pub written : bytes ≡ place_bytes operands.reg operands.place ++ imm_bytes (has_imm (row_of entry f operands)) operands.imm

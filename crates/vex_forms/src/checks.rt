@@ -1,10 +1,12 @@
 //! The checks of a form, which stand between the steps that read.
 
-ghost use Rattle.std.specs.Prelude.{◌≡◌, ◌/◌};
+ghost use Rattle.std.specs.Prelude.{◌≡◌, ◌%◌, true};
 ghost use Rattle.x86_address.specs.Follows.{Any, Decides};
+ghost use Rattle.x86_operand.specs.Kind.{is_vector};
 ghost use Rattle.vex_rows.specs.Few.{items};
+ghost use Rattle.vex_rows.specs.Row.{is_memory, is_memory_of};
 ghost use Rattle.vex_forms.specs.Fields.{fields_of};
-ghost use Rattle.vex_forms.specs.FormWalk.{check_all, kind_of_mod, passes, refusal};
+ghost use Rattle.vex_forms.specs.FormWalk.{check_all, kind_by, passes, refusal};
 ghost use Rattle.vex_forms.specs.Reads.{kind_seen};
 
 use vex_rows::{Check, Entry, Few, Prefix, row_of_form};
@@ -19,17 +21,41 @@ pub enum Kind {
     Register,
     /// An address in memory.
     Memory,
+    /// An address in memory whose index is a vector register.
+    Vector,
 }
 
 impl Kind {
-    /// The kind that ModRM says: a register where the field mod is 3 (Intel SDM volume 2, section 2.1.3).
-    pub fn of(modrm: u8) -> Kind
-        ensures { kind_seen result ≡ kind_of_mod (modrm / 64) }
+    /// The kind that ModRM says: a register where the field mod is 3, and with SIB a vector register as the index where
+    /// the entry's form gathers (Intel SDM volume 2, sections 2.1.3 and 2.3.12).
+    pub fn of(entry: &Entry, modrm: u8) -> Kind
+        ensures kind { kind_seen result ≡ kind_by entry.now modrm }
+        ensures sib { is_vector (kind_seen result) ≡ true → modrm % 8 ≡ 4 }
     {
         if modrm / 64 == 3 {
             Kind::Register
+        } else if row_of_form(entry.form).gathers && modrm % 8 == 4 {
+            Kind::Vector
         } else {
             Kind::Memory
+        }
+    }
+
+    /// Whether it is an address in memory.
+    fn is_memory(self) -> bool
+        ensures { result ≡ is_memory (kind_seen self) }
+    {
+        matches!(self, Kind::Memory | Kind::Vector)
+    }
+
+    /// Whether it is an address in memory whose index is a vector register or not.
+    fn is_memory_of(self, vector: bool) -> bool
+        ensures { result ≡ is_memory_of vector (kind_seen self) }
+    {
+        match self {
+            Kind::WithoutModRM | Kind::Register => false,
+            Kind::Memory => !vector,
+            Kind::Vector => vector,
         }
     }
 }
@@ -43,9 +69,9 @@ fn passes(check: Check, entry: &Entry, prefix: &Prefix, kind: Kind, reg: u8) -> 
         Check::V0 => prefix.vvvv == 0,
         Check::L0 => !prefix.l,
         Check::Reg => kind == Kind::Register,
-        Check::Mem => kind == Kind::Memory,
+        Check::Mem => kind.is_memory_of(row_of_form(entry.form).gathers),
         Check::Group => row_of_form(entry.form).is_group(reg),
-        Check::VifMem => kind != Kind::Memory || prefix.vvvv == 0,
+        Check::VifMem => !kind.is_memory() || prefix.vvvv == 0,
     }
 }
 

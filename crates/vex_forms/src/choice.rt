@@ -2,11 +2,12 @@
 
 ghost use Rattle.std.specs.Prelude.{◌≡◌, ◌&&◌};
 ghost use Rattle.std.specs.List.{list_all, list_any};
+ghost use Rattle.x86_operand.specs.Kind.{is_vector};
 ghost use Rattle.vex_rows.specs.Few.{items};
 ghost use Rattle.vex_rows.specs.FormRows.{form_row, gathers};
 ghost use Rattle.vex_rows.specs.Steps.{steps, steps_seen};
 ghost use Rattle.vex_rows.specs.Groups.{groups};
-ghost use Rattle.vex_rows.specs.Row.{exists, group_opcode, has_imm, opcode_of, permits_choice};
+ghost use Rattle.vex_rows.specs.Row.{exists, group_opcode, has_imm, is_memory, is_memory_of, opcode_of, permits_choice};
 ghost use Rattle.vex_forms.specs.Slots.{demands_v, names_v, slots, v_rule};
 ghost use Rattle.vex_forms.specs.Layout.{chosen, may_be, row_for};
 
@@ -64,6 +65,21 @@ impl Choice {
         self.form_row().modrm
     }
 
+    /// Whether the operand E is an address in memory.
+    pub fn in_memory(&self) -> bool
+        ensures memory { result ≡ is_memory (chosen self.now).kind }
+        ensures of { result ≡ is_memory_of (gathers self.now.entry.form) (chosen self.now).kind }
+    {
+        self.has_modrm() && self.memory
+    }
+
+    /// Whether the operand E is an address whose index is a vector register.
+    pub fn is_vector(&self) -> bool
+        ensures { result ≡ is_vector (chosen self.now).kind }
+    {
+        self.has_modrm() && self.memory && self.form_row().gathers
+    }
+
     /// Whether the operand E can be where the choice has it: without ModRM it isn't in memory.
     fn is_possible(&self) -> bool
         ensures { result ≡ may_be self.now.entry self.now.memory }
@@ -80,7 +96,7 @@ impl Choice {
             Check::V0 | Check::VifMem => true,
             Check::L0 => !self.l,
             Check::Reg => self.has_modrm() && !self.memory,
-            Check::Mem => self.has_modrm() && self.memory,
+            Check::Mem => self.in_memory(),
             Check::Group => match self.group {
                 None => true,
                 Some(reg) => self.form_row().is_group(reg),
@@ -141,7 +157,7 @@ impl Choice {
         ensures { result ≡ opcode_of (chosen self.now) }
     {
         match self.form_row().opcodes {
-            Some(both) if self.memory && self.has_modrm() => both.1,
+            Some(both) if self.in_memory() => both.1,
             Some(both) => both.0,
             None => self.opcode_by_group(),
         }
@@ -161,7 +177,7 @@ impl Choice {
     {
         match check {
             Check::V0 => true,
-            Check::VifMem => self.has_modrm() && self.memory,
+            Check::VifMem => self.in_memory(),
             Check::L0 | Check::Reg | Check::Mem | Check::Group => false,
         }
     }

@@ -1,13 +1,16 @@
 //! Reading what the form of an entry asks for.
 
-ghost use Rattle.std.specs.Prelude.{◌≡◌, ◌≢◌, ◌<◌, ◌/◌, ◌%◌, IfOk, IfErr};
+ghost use Rattle.std.specs.Prelude.{◌≡◌, ◌≢◌, ◌<◌, ◌/◌, ◌%◌, true, IfOk, IfErr};
+ghost use Rattle.x86_operand.specs.Kind.{is_vector};
+ghost use Rattle.x86_address.specs.Reading.{take_place};
+ghost use Rattle.x86_address.specs.Reads.{NamesAddress};
 ghost use Rattle.x86_address.specs.Follows.{Same, Follows, OverSlice};
 ghost use Rattle.vex_rows.specs.Steps.{steps_seen};
 ghost use Rattle.vex_rows.specs.Row.{Among, is_memory};
 ghost use Rattle.vex_rows.specs.Table.{table};
 ghost use Rattle.vex_forms.specs.Fields.{fields_of};
 ghost use Rattle.vex_forms.specs.FormWalk.{place_by, take_imm, walk_alone, walk_form, walk_modrm};
-ghost use Rattle.vex_forms.specs.Reads.{FailsForm, HasPrefix, IsInstruction, IsOperandE, IsOperands, TakesForm, kind_of_e};
+ghost use Rattle.vex_forms.specs.Reads.{FailsForm, HasPrefix, IsInstruction, IsOperandE, IsOperands, TakesForm, kind_of_e, kind_seen};
 
 use crate::checks::{Kind, do_checks};
 use crate::instruction::instruction_of;
@@ -16,24 +19,48 @@ use crate::operand_fields::OperandFields;
 use crate::row_layout::layout;
 use vex_rows::{Entry, FormRow, Prefix, row_of_form};
 use x86_address::laws::reading_is_spelling;
-use x86_address::{read_address, read_imm, read_modrm};
-use x86_operand::{DecodeError, Instruction};
+use x86_address::{read_address, read_imm, read_modrm, read_vector_address};
+use x86_operand::{Address, DecodeError, Instruction};
 use x86_reader::Reader;
+
+/// Reads SIB and displacement after ModRM, of an address of that kind.
+fn read_address_of<R: Reader>(
+    kind: Kind,
+    modrm: u8,
+    prefix: &Prefix,
+    words: &mut R,
+) -> Result<Address, DecodeError>
+    requires memory { modrm < 0xC0 }
+    requires sib { is_vector (kind_seen kind) ≡ true → modrm % 8 ≡ 4 }
+    ensures { Follows (take_place (modrm / 64) (modrm % 8))
+        (NamesAddress (is_vector (kind_seen kind)) prefix.now.x prefix.now.b)
+        (R.state words.old) (R.state words.new) result }
+{
+    match kind {
+        Kind::Vector => read_vector_address(words, modrm, prefix.x, prefix.b),
+        Kind::WithoutModRM | Kind::Register | Kind::Memory => {
+            read_address(words, modrm, prefix.x, prefix.b)
+        }
+    }
+}
 
 /// Reads the operand E after ModRM: SIB and displacement, where the form reads an address and ModRM names one.
 fn read_e<R: Reader>(
     has_address: bool,
+    kind: Kind,
     modrm: u8,
     prefix: &Prefix,
     words: &mut R,
 ) -> Result<OperandE, DecodeError>
-    ensures { Follows (place_by has_address (modrm / 64) (modrm % 8)) (IsOperandE prefix.now.x prefix.now.b)
+    requires { is_vector (kind_seen kind) ≡ true → modrm % 8 ≡ 4 }
+    ensures { Follows (place_by has_address (modrm / 64) (modrm % 8))
+        (IsOperandE (is_vector (kind_seen kind)) prefix.now.x prefix.now.b)
         (R.state words.old) (R.state words.new) result }
 {
     if !has_address || modrm / 64 == 3 {
         return Ok(OperandE::Register(modrm % 8 + 8 * u8::from(prefix.b)));
     }
-    let address = read_address(words, modrm, prefix.x, prefix.b)?;
+    let address = read_address_of(kind, modrm, prefix, words)?;
     Ok(OperandE::Memory(address))
 }
 
@@ -57,9 +84,9 @@ fn read_from_modrm<R: Reader>(
 {
     let modrm = read_modrm(words)?;
     let reg = modrm / 8 % 8;
-    let kind = Kind::of(modrm);
+    let kind = Kind::of(entry, modrm);
     do_checks(form.after_modrm, entry, prefix, kind, reg)?;
-    let e = read_e(form.address, modrm, prefix, words)?;
+    let e = read_e(form.address, kind, modrm, prefix, words)?;
     do_checks(form.after_address, entry, prefix, kind, reg)?;
     let imm = read_imm_if(form.imm, words)?;
     Ok(OperandFields {

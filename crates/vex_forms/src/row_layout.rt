@@ -21,7 +21,9 @@ pub struct RowLayout {
     pub vvvv: VvvvRule,
     /// The size of the memory operand, where there is one.
     pub mem_size: Option<MemoryAccessSize>,
-    /// The bank of the index of an address: of vectors where the row gathers (Intel SDM volume 2, section 2.3.12).
+    /// Whether the operand E is an address whose index is a vector register (Intel SDM volume 2, section 2.3.12).
+    pub vector: bool,
+    /// The bank of the index of an address: of vectors where the row gathers.
     pub index_bank: RegisterBank,
     /// Whether there is a ModRM byte.
     pub has_modrm: bool,
@@ -60,6 +62,7 @@ impl Choice {
             slots,
             vvvv,
             mem_size: self.memory_size(),
+            vector: self.is_vector(),
             index_bank: self.index_bank(),
             has_modrm: self.has_modrm(),
             group: self.group,

@@ -60,7 +60,7 @@ impl Choice {
     fn bytes(&self) -> Option<u8>
         ensures { result ≡ size_of (chosen self.now) }
     {
-        if self.memory && self.has_modrm() {
+        if self.in_memory() {
             self.size_at(self.form_row().size)
         } else {
             self.bytes_at(self.form_row().register_size)

@@ -82,7 +82,7 @@ impl Choice {
         slots.push(match rule {
             SlotRule::G(bank) => Slot::G(self.bank(bank)),
             SlotRule::V(bank) => Slot::V(self.bank(bank)),
-            SlotRule::VInRegister(_) if self.memory && self.has_modrm() => return,
+            SlotRule::VInRegister(_) if self.in_memory() => return,
             SlotRule::VInRegister(bank) => Slot::V(self.bank(bank)),
             SlotRule::E(bank) => Slot::E(self.bank(bank)),
             SlotRule::U8 => Slot::U8,

@@ -7,7 +7,7 @@ use Rattle.x86_opcode.specs.Number.{opcode_number, same_opcode}
 use Rattle.vex_rows.specs.declared.entry.Entry.{Entry}
 use Rattle.vex_rows.specs.Entries.{rows_of, has_opcode, entries_with}
 use Rattle.vex_rows.specs.Index.{place_list, start_list, places_at}
-use Rattle.vex_rows.specs.FormRows.{form_row}
+use Rattle.vex_rows.specs.FormRows.{form_row, gathers}
 use Rattle.vex_rows.specs.Groups.{groups}
 use Rattle.vex_rows.specs.Row.{choices, exists, has_groups, opcode_of}
 use Rattle.vex_rows.specs.Steps.{steps}
@@ -98,7 +98,7 @@ unfoldable misplaced : List (List ℕ) → List ℕ
 misplaced numbers = flat_map (λ n. wrong (is_placed numbers n) n) (below 551)
 
 none_misplaced : misplaced (map numbers_of table) ≡ []
-unfolding table misplaced is_placed places_at place_list start_list places_where same_list numbers_of all_once once rows_of choices exists opcode_of has_groups steps groups form_row opcode_number
+unfolding table misplaced is_placed places_at place_list start_list places_where same_list numbers_of all_once once rows_of choices exists opcode_of has_groups steps groups form_row gathers opcode_number
 none_misplaced = refl
 
 -- ---- what the entries at those places are

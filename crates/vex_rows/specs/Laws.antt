@@ -6,13 +6,13 @@ use Rattle.vex_rows.specs.declared.entry.Entry.{Entry}
 use Rattle.vex_rows.specs.declared.form.Form.{Form}
 use Rattle.vex_rows.specs.declared.key.Key.{Key}
 use Rattle.vex_rows.specs.Rules.{has_key}
-use Rattle.vex_rows.specs.FormRows.{form_row}
+use Rattle.vex_rows.specs.FormRows.{form_row, gathers}
 use Rattle.vex_rows.specs.Steps.{steps}
 use Rattle.vex_rows.specs.Groups.{groups}
 use Rattle.vex_rows.specs.Table.{table}
 use Rattle.vex_rows.specs.Row.{Row, Among, IsRow, opcode_of}
 use Rattle.vex_rows.specs.Entries.{entries_with}
-use Rattle.vex_rows.specs.Tests.{is_orderly, out_of_order}
+use Rattle.vex_rows.specs.Tests.{is_orderly, checks_address, out_of_order}
 
 -- two entries of the table that have one key are one
 abbrev pub KeysAreApart : Type 0
@@ -37,6 +37,10 @@ FormsAreInOrder = (form : Form) → (form_row form).form ≡ form
 -- the steps of every form are in order
 abbrev pub FormsAreOrderly : Type 0
 FormsAreOrderly = (form : Form) → is_orderly (steps form) ≡ true
+
+-- every form that gathers checks that there is an address
+abbrev pub GathersAreChecked : Type 0
+GathersAreChecked = (form : Form) → checks_address (gathers form) (steps form) ≡ true
 
 -- every group is a value of a field of three bits
 abbrev pub GroupsAreFields : Type 0

@@ -1,15 +1,15 @@
 pub mod Lists
 pub mod Laws
-use Rattle.std.specs.Prelude.{◌≡◌, ◌⊎◌, ℕ, Bool, true, false, ◌&&◌, ◌==◌, List, [], ◌∷◌, ◌++◌, map, filter, flat_map, Option, Some, None, if◌then◌else◌}
+use Rattle.std.specs.Prelude.{◌≡◌, ◌⊎◌, ℕ, Bool, true, false, not, ◌&&◌, ◌==◌, List, [], ◌∷◌, ◌++◌, map, filter, flat_map, Option, Some, None, if◌then◌else◌}
 use Rattle.std.specs.List.{list_all, list_any}
 use Rattle.x86_opcode.specs.declared.Opcode.{Opcode}
-use Rattle.x86_operand.specs.Kind.{Kind, WithoutModRM, InRegister, InMemory}
+use Rattle.x86_operand.specs.Kind.{Kind, WithoutModRM, InRegister, InMemory, VectorIndexed, memory_kind}
 use Rattle.vex_rows.specs.declared.entry.Entry.{Entry}
 use Rattle.vex_rows.specs.declared.form.Form.{Form}
 use Rattle.vex_rows.specs.Rules.{allows}
 use Rattle.vex_rows.specs.declared.steps.Check.{Check}
 use Rattle.vex_rows.specs.declared.steps.Check.TheVariants.{V0, L0, Reg, Mem, Group, VifMem}
-use Rattle.vex_rows.specs.FormRows.{form_row}
+use Rattle.vex_rows.specs.FormRows.{form_row, gathers}
 use Rattle.vex_rows.specs.Steps.{steps}
 use Rattle.vex_rows.specs.Groups.{groups}
 use Rattle.vex_rows.specs.Table.{table}
@@ -27,12 +27,21 @@ abbrev pub is_register : Kind → Bool
 is_register WithoutModRM = false
 is_register InRegister = true
 is_register InMemory = false
+is_register VectorIndexed = false
 
 -- whether a kind is that of an address in memory
 abbrev pub is_memory : Kind → Bool
 is_memory WithoutModRM = false
 is_memory InRegister = false
 is_memory InMemory = true
+is_memory VectorIndexed = true
+
+-- whether a kind is that of an address whose index is a vector register or not
+abbrev pub is_memory_of : Bool → Kind → Bool
+is_memory_of vector WithoutModRM = false
+is_memory_of vector InRegister = false
+is_memory_of vector InMemory = not vector
+is_memory_of vector VectorIndexed = vector
 
 -- whether a check is that of the reg field
 abbrev pub is_group_check : Check → Bool
@@ -67,9 +76,13 @@ abbrev pub permits_choice : Row → Check → Bool
 permits_choice row V0 = true
 permits_choice row L0 = row.l == 0
 permits_choice row Reg = is_register row.kind
-permits_choice row Mem = is_memory row.kind
+permits_choice row Mem = is_memory_of (gathers row.entry.form) row.kind
 permits_choice row Group = group_allowed row.entry.form row.l row.group
 permits_choice row VifMem = true
+
+-- whether the instructions of a row have the EVEX mark, which those in VEX form don't (Intel SDM volume 2, section 2.7)
+unfoldable pub mark_of : Row → Bool
+mark_of row = false
 
 -- the opcode by the kind of the operand E, where a form has one for each, and else by the group
 abbrev pub opcode_by : Option (Opcode × Opcode) → Row → Opcode
@@ -87,9 +100,9 @@ exists row =
     allows row.entry.w row.w && allows row.entry.l (row.l == 1)
     && list_all (permits_choice row) ((steps row.entry.form).before_modrm ++ (steps row.entry.form).after_modrm ++ (steps row.entry.form).after_address)
 
--- the kinds that a form may have
+-- the kinds that a form may have: its address has a vector register as its index where it gathers
 abbrev pub kinds_of : Form → List Kind
-kinds_of form = if (steps form).modrm then InRegister ∷ InMemory ∷ [] else WithoutModRM ∷ []
+kinds_of form = if (steps form).modrm then InRegister ∷ memory_kind (gathers form) ∷ [] else WithoutModRM ∷ []
 
 -- the group fields that a form may have at an L
 abbrev pub group_choices : Form → ℕ → List (Option ℕ)

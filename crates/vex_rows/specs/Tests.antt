@@ -79,6 +79,11 @@ abbrev pub is_register_check : Check → Bool
 is_register_check Reg = true
 is_register_check _ = false
 
+-- whether a check is that of an address in memory
+abbrev pub is_memory_check : Check → Bool
+is_memory_check Mem = true
+is_memory_check _ = false
+
 -- whether there is no check
 abbrev pub is_none : List Check → Bool
 is_none [] = true
@@ -92,3 +97,8 @@ is_orderly form =
     list_all is_prefix_check form.before_modrm && list_all is_modrm_check form.after_modrm && list_all is_late_check form.after_address
     && (if form.modrm then form.address || list_any is_register_check form.after_modrm
     else is_none form.after_modrm && is_none form.after_address && not form.address)
+
+-- whether a form that gathers has ModRM and reads an address, and checks first that one is there
+abbrev pub checks_address : Bool → FormSteps → Bool
+checks_address vector form =
+    if vector then form.modrm && form.address && list_any is_memory_check form.after_modrm else true

@@ -2,7 +2,7 @@
 //! empty.
 
 ghost use Rattle.vex_rows.specs.Laws.{KeysAreApart, TableIsInOrder, RowsHaveEntries, EntriesHaveRows};
-ghost use Rattle.vex_rows.specs.Laws.{FormsAreInOrder, FormsAreOrderly, GroupsAreFields};
+ghost use Rattle.vex_rows.specs.Laws.{FormsAreInOrder, FormsAreOrderly, GathersAreChecked, GroupsAreFields};
 
 /// Of all entries at most one has a key.
 pub fn keys_are_apart()
@@ -34,6 +34,11 @@ pub fn forms_are_in_order()
 /// register.
 pub fn forms_are_orderly()
     ensures { FormsAreOrderly }
+{}
+
+/// Every form that gathers has ModRM and reads an address, and checks first that ModRM names one.
+pub fn gathers_are_checked()
+    ensures { GathersAreChecked }
 {}
 
 /// Every group of every form is a value of the field reg: it is below 8.

@@ -5,65 +5,80 @@ use Rattle.x86_address.specs.Place.{Place, Based, RipBased, Scaled, Baseless, pl
 use Rattle.x86_address.specs.Reading.{take_place}
 use Rattle.x86_address.specs.Shortest.{shortest}
 
--- the ModRM byte and those after it are read as this place, which names this address with these X and B; its shortest
--- place has these bytes
-abbrev Names : ℕ → List ℕ → Place → Bool → Bool → Base → Option (ℕ × ℕ) → ℤ → List ℕ → Type 0
-Names modrm bytes place x b base index disp least =
+-- the ModRM byte and those after it are read as this place, which names this address with these X and B, by whether
+-- its index is a vector register; its shortest place has these bytes
+abbrev Names : Bool → ℕ → List ℕ → Place → Bool → Bool → Base → Option (ℕ × ℕ) → ℤ → List ℕ → Type 0
+Names vector modrm bytes place x b base index disp least =
     (take_place (modrm / 64) (modrm % 8) bytes ≡ Ok (place, []))
-    × (target place x b ≡ At (record { base = base; index = index; disp = disp }))
+    × (target vector place x b ≡ At (record { base = base; index = index; disp = disp }))
     × (place_bytes 0 (shortest (At (record { base = base; index = index; disp = disp }))) ≡ least)
 
 -- a displacement 0 is none, but with base 5
-long_zero : Names 0x80 (0 ∷ 0 ∷ 0 ∷ 0 ∷ []) (Based 0 (Long 0)) false false (Numbered 0) None (pos 0) (0 ∷ [])
+long_zero : Names false 0x80 (0 ∷ 0 ∷ 0 ∷ 0 ∷ []) (Based 0 (Long 0)) false false (Numbered 0) None (pos 0) (0 ∷ [])
 unfolding shortest
 long_zero = (refl, refl, refl)
 
 -- base 5 has no form without a displacement
-short_zero : Names 0x45 (0 ∷ []) (Based 5 (Short 0)) false false (Numbered 5) None (pos 0) (0x45 ∷ 0 ∷ [])
+short_zero : Names false 0x45 (0 ∷ []) (Based 5 (Short 0)) false false (Numbered 5) None (pos 0) (0x45 ∷ 0 ∷ [])
 unfolding shortest
 short_zero = (refl, refl, refl)
 
 -- SIB without an index
-no_index : Names 0x04 (0x20 ∷ []) (Scaled 0 4 0 Absent) false false (Numbered 0) None (pos 0) (0 ∷ [])
+no_index : Names false 0x04 (0x20 ∷ []) (Scaled 0 4 0 Absent) false false (Numbered 0) None (pos 0) (0 ∷ [])
 unfolding shortest
 no_index = (refl, refl, refl)
 
 -- B plays no part beside the instruction pointer
-rip : Names 0x05 (0x10 ∷ 0 ∷ 0 ∷ 0 ∷ []) (RipBased 16) false true Rip None (pos 16) (0x05 ∷ 0x10 ∷ 0 ∷ 0 ∷ 0 ∷ [])
+rip : Names false 0x05 (0x10 ∷ 0 ∷ 0 ∷ 0 ∷ []) (RipBased 16) false true Rip None (pos 16) (0x05 ∷ 0x10 ∷ 0 ∷ 0 ∷ 0 ∷ [])
 unfolding shortest
 rip = (refl, refl, refl)
 
 -- the longest
-scaled : Names 0x84 (0x88 ∷ 0x78 ∷ 0x56 ∷ 0x34 ∷ 0x12 ∷ []) (Scaled 2 1 0 (Long 305419896)) false false (Numbered 0) (Some (1, 4)) (pos 305419896) (0x84 ∷ 0x88 ∷ 0x78 ∷ 0x56 ∷ 0x34 ∷ 0x12 ∷ [])
+scaled : Names false 0x84 (0x88 ∷ 0x78 ∷ 0x56 ∷ 0x34 ∷ 0x12 ∷ []) (Scaled 2 1 0 (Long 305419896)) false false (Numbered 0) (Some (1, 4)) (pos 305419896) (0x84 ∷ 0x88 ∷ 0x78 ∷ 0x56 ∷ 0x34 ∷ 0x12 ∷ [])
 unfolding shortest
 scaled = (refl, refl, refl)
 
 -- -128 fits one byte, and 128 doesn't
-least_short : Names 0x80 (0x80 ∷ 0xFF ∷ 0xFF ∷ 0xFF ∷ []) (Based 0 (Long 0xFFFFFF80)) false false (Numbered 0) None (negsuc 127) (0x40 ∷ 0x80 ∷ [])
+least_short : Names false 0x80 (0x80 ∷ 0xFF ∷ 0xFF ∷ 0xFF ∷ []) (Based 0 (Long 0xFFFFFF80)) false false (Numbered 0) None (negsuc 127) (0x40 ∷ 0x80 ∷ [])
 unfolding shortest
 least_short = (refl, refl, refl)
 
 -- a byte has its sign
-short_sign : Names 0x40 (0x80 ∷ []) (Based 0 (Short 0x80)) false false (Numbered 0) None (negsuc 127) (0x40 ∷ 0x80 ∷ [])
+short_sign : Names false 0x40 (0x80 ∷ []) (Based 0 (Short 0x80)) false false (Numbered 0) None (negsuc 127) (0x40 ∷ 0x80 ∷ [])
 unfolding shortest
 short_sign = (refl, refl, refl)
 
 -- 128 fits no byte
-least_long : Names 0x80 (0x80 ∷ 0 ∷ 0 ∷ 0 ∷ []) (Based 0 (Long 128)) false false (Numbered 0) None (pos 128) (0x80 ∷ 0x80 ∷ 0 ∷ 0 ∷ 0 ∷ [])
+least_long : Names false 0x80 (0x80 ∷ 0 ∷ 0 ∷ 0 ∷ []) (Based 0 (Long 128)) false false (Numbered 0) None (pos 128) (0x80 ∷ 0x80 ∷ 0 ∷ 0 ∷ 0 ∷ [])
 unfolding shortest
 least_long = (refl, refl, refl)
 
 -- base 12 needs SIB, and so does no base
-twelve : Names 0x04 (0x24 ∷ []) (Scaled 0 4 4 Absent) false true (Numbered 12) None (pos 0) (0x04 ∷ 0x24 ∷ [])
+twelve : Names false 0x04 (0x24 ∷ []) (Scaled 0 4 4 Absent) false true (Numbered 12) None (pos 0) (0x04 ∷ 0x24 ∷ [])
 unfolding shortest
 twelve = (refl, refl, refl)
 
 -- no base needs SIB and four bytes
-no_base : Names 0x04 (0x25 ∷ 0 ∷ 0x10 ∷ 0 ∷ 0 ∷ []) (Baseless 0 4 4096) false false NoBase None (pos 4096) (0x04 ∷ 0x25 ∷ 0 ∷ 0x10 ∷ 0 ∷ 0 ∷ [])
+no_base : Names false 0x04 (0x25 ∷ 0 ∷ 0x10 ∷ 0 ∷ 0 ∷ []) (Baseless 0 4 4096) false false NoBase None (pos 4096) (0x04 ∷ 0x25 ∷ 0 ∷ 0x10 ∷ 0 ∷ 0 ∷ [])
 unfolding shortest
 no_base = (refl, refl, refl)
 
 -- the index field 4 is an index with X
-index_twelve : Names 0x04 (0x60 ∷ []) (Scaled 1 4 0 Absent) true false (Numbered 0) (Some (12, 2)) (pos 0) (0x04 ∷ 0x60 ∷ [])
+index_twelve : Names false 0x04 (0x60 ∷ []) (Scaled 1 4 0 Absent) true false (Numbered 0) (Some (12, 2)) (pos 0) (0x04 ∷ 0x60 ∷ [])
 unfolding shortest
 index_twelve = (refl, refl, refl)
+
+-- the index 4 of a vector register
+vector_four : Names true 0x04 (0x60 ∷ []) (Scaled 1 4 0 Absent) false false (Numbered 0) (Some (4, 2)) (pos 0) (0x04 ∷ 0x60 ∷ [])
+unfolding shortest
+vector_four = (refl, refl, refl)
+
+-- beside base 13, which has no form without a displacement
+vector_thirteen : Names true 0x44 (0x65 ∷ 0 ∷ []) (Scaled 1 4 5 (Short 0)) true true (Numbered 13) (Some (12, 2)) (pos 0) (0x44 ∷ 0x65 ∷ 0 ∷ [])
+unfolding shortest
+vector_thirteen = (refl, refl, refl)
+
+-- and beside no base
+vector_no_base : Names true 0x04 (0xA5 ∷ 0x10 ∷ 0 ∷ 0 ∷ 0 ∷ []) (Baseless 2 4 16) false true NoBase (Some (4, 4)) (pos 16) (0x04 ∷ 0xA5 ∷ 0x10 ∷ 0 ∷ 0 ∷ 0 ∷ [])
+unfolding shortest
+vector_no_base = (refl, refl, refl)

@@ -171,6 +171,7 @@ pub record ReadsModRM (modrm : ℕ) (bytes : List ℕ) (p : Place) (rest : List 
   pub is_place : IsPlace p
   pub has_modrm : (kind_of p ≡ InRegister) ⊎ (kind_of p ≡ InMemory)
   pub kind_is : kind_of p ≡ (if modrm / 64 == 3 then InRegister else InMemory)
+  pub rm_is : rm_of p ≡ modrm % 8
   pub written : modrm ∷ bytes ≡ place_bytes ((modrm / 8) % 8) p ++ rest
   pub left : IsBytes rest
 
@@ -183,6 +184,7 @@ modrm-written modrm bytes below ok p rest h =
       is_place = read.is_place;
       has_modrm = has;
       kind_is = read.kind_is;
+      rm_is = read.rm_is;
       written = rw (place_bytes_split ((modrm / 8) % 8) p has, read.mod_is, read.rm_is, packed modrm) (ap (λ bytes. modrm ∷ bytes) read.written);
       left = read.left;
     }

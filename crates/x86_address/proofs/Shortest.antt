@@ -7,9 +7,9 @@ use Rattle.std.proofs.lemmas.Int.{ints}
 use Rattle.x86_operand.specs.Kind.{InMemory}
 use Rattle.x86_operand.specs.declared.register.RegisterBank.{RegisterBank}
 use Rattle.x86_address.specs.Bytes.{bit, Displacement, Absent, Short, Long, IsDisplacement, displacement_bytes, displacement_value}
-use Rattle.x86_address.specs.Place.{Place, NoPlace, Direct, Based, RipBased, Scaled, Baseless, MayBeBase, IsPlace, kind_of, place_bytes, Base, NoBase, Rip, Numbered, PlainAddress, Target, NoTarget, Number, At, kind_of_target, index_of, target}
+use Rattle.x86_address.specs.Place.{Place, NoPlace, Direct, Based, RipBased, Scaled, Baseless, MayBeBase, IsPlace, kind_of, has_sib, place_bytes, Base, NoBase, Rip, Numbered, PlainAddress, Target, NoTarget, Number, At, kind_of_target, index_of, target}
 use Rattle.x86_address.proofs.PlaceBytes.{displacement_length}
-use Rattle.x86_address.specs.Shortest.{plain, plain_base, plain_index, in_banks, base_register, index_register, doubleword_of, shortest_displacement, exponent_of, exponent_field, index_field, has_index, place_of_numbered, place_of_base, shortest, is_upper, x_of_index, b_of_base, x_of, b_of, IsBase, IsIndex, IsSpellable}
+use Rattle.x86_address.specs.Shortest.{plain, plain_base, plain_index, in_banks, base_register, index_register, doubleword_of, shortest_displacement, exponent_of, exponent_field, index_field, has_index, place_of_numbered, place_of_base, shortest, is_upper, x_of_index, b_of_base, x_of, b_of, IsBase, MayBeIndex, IsIndex, IsSpellable}
 
 -- ---- displacements
 
@@ -139,27 +139,42 @@ index_field_below : (index : Option (ℕ × ℕ)) → index_field index < 8
 index_field_below None = omega arith
 index_field_below (Some index) = omega arith
 
+-- a number that may be an index isn't taken for none
+not_none : (vector : Bool) (n : ℕ) → MayBeIndex vector n → (not vector && n == 4) ≡ false
+not_none false n ok = ne_eqb n 4 ok
+not_none true n ok = refl
+
+may_be_index : (vector : Bool) (n : ℕ) → (not vector && n == 4) ≡ false → MayBeIndex vector n
+may_be_index false n e = eqb-false n 4 e
+may_be_index true n e = tt
+
+-- none is no vector register
+none_parts : (vector four : Bool) → (not vector && four) ≡ true → (vector ≡ false) × (four ≡ true)
+none_parts false four e = (refl, e)
+none_parts true four e = cc
+
 -- the fields and X of an index name it
-index_again : (index : Option (ℕ × ℕ)) → IsIndex index → index_of (exponent_field index) (index_field index) (x_of_index index) ≡ index
-index_again None ok = refl
-index_again (Some index) ok =
+index_again : (vector : Bool) (index : Option (ℕ × ℕ)) → IsIndex vector index → index_of vector (exponent_field index) (index_field index) (x_of_index index) ≡ index
+index_again false None ok = refl
+index_again true None ok = cc
+index_again vector (Some index) ok =
     let number = number_again index.0 ok.0 in
-    rw (number, ne_eqb index.0 4 ok.1) (ap (λ scale. Some (index.0, scale)) (rw (ok.4, exponent_again ok.2 ok.3)))
+    rw (number, not_none vector index.0 ok.1) (ap (λ scale. Some (index.0, scale)) (rw (ok.4, exponent_again ok.2 ok.3)))
 
 -- fields and X name an index in range
-IsIndex-index_of : (k i : ℕ) (x : Bool) → k < 4 → i < 8 → IsIndex (index_of k i x)
-IsIndex-index_of k i x p q = by_test (i + 8 * bit x) (numbered_below i x q) _ refl
+IsIndex-index_of : (vector : Bool) (k i : ℕ) (x : Bool) → k < 4 → i < 8 → IsIndex vector (index_of vector k i x)
+IsIndex-index_of vector k i x p q = by_test (i + 8 * bit x) (numbered_below i x q) _ refl
   where
-    by_test : (n : ℕ) → n < 16 → (none : Bool) → (n == 4) ≡ none → IsIndex (if none then None else Some (n, 2 ^ k))
-    by_test n h true e = tt
-    by_test n h false e = (h, eqb-false n 4 e, k, p, refl)
+    by_test : (n : ℕ) → n < 16 → (none : Bool) → (not vector && n == 4) ≡ none → IsIndex vector (if none then None else Some (n, 2 ^ k))
+    by_test n h true e = (none_parts vector (n == 4) e).0
+    by_test n h false e = (h, may_be_index vector n e, k, p, refl)
 
 -- its X is the bit handed in
-x_of-index_of : (k i : ℕ) (x : Bool) → i < 8 → x_of_index (index_of k i x) ≡ x
-x_of-index_of k i x p = by_test (i + 8 * bit x) (is_upper-field i x p) _ refl
+x_of-index_of : (vector : Bool) (k i : ℕ) (x : Bool) → i < 8 → x_of_index (index_of vector k i x) ≡ x
+x_of-index_of vector k i x p = by_test (i + 8 * bit x) (is_upper-field i x p) _ refl
   where
-    by_test : (n : ℕ) → is_upper n ≡ x → (none : Bool) → (n == 4) ≡ none → x_of_index (if none then None else Some (n, 2 ^ k)) ≡ x
-    by_test n h true e = sym (ap is_upper (eqb-true n 4 e)) ∙ h
+    by_test : (n : ℕ) → is_upper n ≡ x → (none : Bool) → (not vector && n == 4) ≡ none → x_of_index (if none then None else Some (n, 2 ^ k)) ≡ x
+    by_test n h true e = sym (ap is_upper (eqb-true n 4 (none_parts vector (n == 4) e).1)) ∙ h
     by_test n h false e = h
 
 -- ---- the shortest place
@@ -204,13 +219,13 @@ kind_of-shortest (Number n) = refl
 kind_of-shortest (At a) = kind_of_base a.base a.index a.disp
 
 -- a place has the kind of its target
-pub kind_of_target-target : (p : Place) (x b : Bool) → kind_of_target (target p x b) ≡ kind_of p
-kind_of_target-target NoPlace x b = refl
-kind_of_target-target (Direct rm) x b = refl
-kind_of_target-target (Based rm d) x b = refl
-kind_of_target-target (RipBased n) x b = refl
-kind_of_target-target (Scaled k i j d) x b = refl
-kind_of_target-target (Baseless k i n) x b = refl
+pub kind_of_target-target : (vector : Bool) (p : Place) (x b : Bool) → kind_of_target (target vector p x b) ≡ kind_of p
+kind_of_target-target vector NoPlace x b = refl
+kind_of_target-target vector (Direct rm) x b = refl
+kind_of_target-target vector (Based rm d) x b = refl
+kind_of_target-target vector (RipBased n) x b = refl
+kind_of_target-target vector (Scaled k i j d) x b = refl
+kind_of_target-target vector (Baseless k i n) x b = refl
 
 -- an index that isn't there
 no_index : (index : Option (ℕ × ℕ)) → has_index index ≡ false → index ≡ None
@@ -218,54 +233,68 @@ no_index None h = refl
 no_index (Some index) h = cc
 
 -- the place of an address that bytes can name names it
-named_again : (base : Base) (index : Option (ℕ × ℕ)) (z : ℤ) → IsBase base → IsIndex index → FitsSigned w32 z → (base ≡ Rip → index ≡ None) → target (place_of_base base index z) (x_of_index index) (b_of_base base) ≡ At (record { base = base; index = index; disp = z })
-named_again NoBase index z p q fits alone = rw (index_again index q, value_of_doubleword z fits)
-named_again Rip index z p q fits alone = rw (value_of_doubleword z fits, alone refl)
-named_again (Numbered n) index z p q fits alone =
+named_again : (vector : Bool) (base : Base) (index : Option (ℕ × ℕ)) (z : ℤ) → IsBase base → IsIndex vector index → FitsSigned w32 z → (base ≡ Rip → index ≡ None) → target vector (place_of_base base index z) (x_of_index index) (b_of_base base) ≡ At (record { base = base; index = index; disp = z })
+named_again vector NoBase index z p q fits alone = rw (index_again vector index q, value_of_doubleword z fits)
+named_again vector Rip index z p q fits alone = rw (value_of_doubleword z fits, alone refl)
+named_again vector (Numbered n) index z p q fits alone =
     let d = value-shortest (is_shortest (n % 8 == 5) z) fits in
-    numbered_either (λ place. target place (x_of_index index) (is_upper n) ≡ At (record { base = Numbered n; index = index; disp = z })) n index z
-    (λ sib. rw (number_again n p, index_again index q, d))
+    numbered_either (λ place. target vector place (x_of_index index) (is_upper n) ≡ At (record { base = Numbered n; index = index; disp = z })) n index z
+    (λ sib. rw (number_again n p, index_again vector index q, d))
     (λ none other. rw (number_again n p, d, no_index index none))
 
 -- the shortest place names each target that bytes can name, with the bits that it demands
-pub names-shortest : (e : Target) → IsSpellable e → target (shortest e) (x_of e) (b_of e) ≡ e
+pub names-shortest : (vector : Bool) (e : Target) → IsSpellable vector e → target vector (shortest e) (x_of e) (b_of e) ≡ e
 unfolding shortest
-names-shortest NoTarget ok = refl
-names-shortest (Number n) ok = ap Number (number_again n ok)
-names-shortest (At a) ok = named_again a.base a.index a.disp ok.base ok.index ok.disp ok.alone
+names-shortest vector NoTarget ok = refl
+names-shortest vector (Number n) ok = ap Number (number_again n ok)
+names-shortest vector (At a) ok = named_again vector a.base a.index a.disp ok.base ok.index ok.disp ok.alone
+
+-- where no SIB byte is, the index is no vector register
+plain_without_sib : (vector : Bool) → (vector ≡ true → false ≡ true) → vector ≡ false
+plain_without_sib false sib = refl
+plain_without_sib true sib = sym (sib refl)
+
+-- with a vector register as the index there is a SIB byte
+vector_with_sib : (base : Base) (index : Option (ℕ × ℕ)) (z : ℤ) → IsIndex true index → (base ≡ Rip → index ≡ None) → has_sib (place_of_base base index z) ≡ true
+vector_with_sib NoBase index z ok alone = refl
+vector_with_sib Rip index z ok alone = let never : true ≡ false = subst (IsIndex true) (alone refl) ok in cc
+vector_with_sib (Numbered n) index z ok alone =
+    numbered_either (λ p. has_sib p ≡ true) n index z (λ sib. refl) (λ none other. sym (subst (IsIndex true) (no_index index none) ok))
+
+pub sib-shortest : (e : Target) → kind_of_target e ≡ InMemory → IsSpellable true e → has_sib (shortest e) ≡ true
+unfolding shortest
+sib-shortest NoTarget memory ok = cc
+sib-shortest (Number n) memory ok = cc
+sib-shortest (At a) memory ok = vector_with_sib a.base a.index a.disp ok.index ok.alone
 
 -- what a place names, bytes can name
-pub IsSpellable-target : (p : Place) (x b : Bool) → IsPlace p → IsSpellable (target p x b)
-IsSpellable-target NoPlace x b ok = tt
-IsSpellable-target (Direct rm) x b ok = numbered_below rm b ok
-IsSpellable-target (Based rm d) x b ok = record {
+pub IsSpellable-target : (vector : Bool) (p : Place) (x b : Bool) → IsPlace p → (vector ≡ true → has_sib p ≡ true) → IsSpellable vector (target vector p x b)
+IsSpellable-target vector NoPlace x b ok sib = tt
+IsSpellable-target vector (Direct rm) x b ok sib = numbered_below rm b ok
+IsSpellable-target vector (Based rm d) x b ok sib = record {
   base = numbered_below rm b ok.0;
-  index = tt;
+  index = plain_without_sib vector sib;
   disp = fits_value d ok.3;
   alone = λ h. refl;
 }
-IsSpellable-target (RipBased n) x b ok = record {
+IsSpellable-target vector (RipBased n) x b ok sib = record {
   base = tt;
-  index = tt;
+  index = plain_without_sib vector sib;
   disp = fits_value (Long n) ok;
   alone = λ h. refl;
 }
-IsSpellable-target (Scaled k i j d) x b ok = record {
+IsSpellable-target vector (Scaled k i j d) x b ok sib = record {
   base = numbered_below j b ok.2;
-  index = IsIndex-index_of k i x ok.0 ok.1;
+  index = IsIndex-index_of vector k i x ok.0 ok.1;
   disp = fits_value d ok.4;
   alone = λ h. cc;
 }
-IsSpellable-target (Baseless k i n) x b ok = record {
+IsSpellable-target vector (Baseless k i n) x b ok sib = record {
   base = tt;
-  index = IsIndex-index_of k i x ok.0 ok.1;
+  index = IsIndex-index_of vector k i x ok.0 ok.1;
   disp = fits_value (Long n) ok.2;
   alone = λ h. cc;
 }
-
--- what some place names, the shortest place names, with the bits that it demands
-pub target-shortest : (p : Place) (x b : Bool) → IsPlace p → target (shortest (target p x b)) (x_of (target p x b)) (b_of (target p x b)) ≡ target p x b
-target-shortest p x b ok = names-shortest (target p x b) (IsSpellable-target p x b ok)
 
 -- a displacement that has to be written is there
 not_absent : (field : ℕ) (d : Displacement) → MayBeBase field d → (field == 5) ≡ true → d ≢ Absent
@@ -294,50 +323,50 @@ least_based reg rm b d below four base ok =
     (λ none other. omega arith)
 
 -- no place that names the target has fewer bytes
-pub shortest-least : (p : Place) (x b : Bool) (reg reg' : ℕ) → IsPlace p → length (place_bytes reg (shortest (target p x b))) ≤ length (place_bytes reg' p)
+pub shortest-least : (vector : Bool) (p : Place) (x b : Bool) (reg reg' : ℕ) → IsPlace p → length (place_bytes reg (shortest (target vector p x b))) ≤ length (place_bytes reg' p)
 unfolding shortest
-shortest-least NoPlace x b reg reg' ok = omega arith
-shortest-least (Direct rm) x b reg reg' ok = omega arith
-shortest-least (Based rm d) x b reg reg' ok = least_based reg rm b d ok.0 ok.1 ok.2 ok.3
-shortest-least (RipBased n) x b reg reg' ok = omega arith
-shortest-least (Scaled k i j d) x b reg reg' ok = least_numbered reg j b (index_of k i x) d ok.2 ok.3 ok.4
-shortest-least (Baseless k i n) x b reg reg' ok = omega arith
+shortest-least vector NoPlace x b reg reg' ok = omega arith
+shortest-least vector (Direct rm) x b reg reg' ok = omega arith
+shortest-least vector (Based rm d) x b reg reg' ok = least_based reg rm b d ok.0 ok.1 ok.2 ok.3
+shortest-least vector (RipBased n) x b reg reg' ok = omega arith
+shortest-least vector (Scaled k i j d) x b reg reg' ok = least_numbered reg j b (index_of vector k i x) d ok.2 ok.3 ok.4
+shortest-least vector (Baseless k i n) x b reg reg' ok = omega arith
 
 -- X plays no part, or is the bit that the target demands
-pub x_fixed_or_ignored : (p : Place) (x b : Bool) → IsPlace p → ((x' : Bool) → target p x' b ≡ target p x b) ⊎ (x_of (target p x b) ≡ x)
-x_fixed_or_ignored NoPlace x b ok = inl (λ x'. refl)
-x_fixed_or_ignored (Direct rm) x b ok = inl (λ x'. refl)
-x_fixed_or_ignored (Based rm d) x b ok = inl (λ x'. refl)
-x_fixed_or_ignored (RipBased n) x b ok = inl (λ x'. refl)
-x_fixed_or_ignored (Scaled k i j d) x b ok = inr (x_of-index_of k i x ok.1)
-x_fixed_or_ignored (Baseless k i n) x b ok = inr (x_of-index_of k i x ok.1)
+pub x_fixed_or_ignored : (vector : Bool) (p : Place) (x b : Bool) → IsPlace p → ((x' : Bool) → target vector p x' b ≡ target vector p x b) ⊎ (x_of (target vector p x b) ≡ x)
+x_fixed_or_ignored vector NoPlace x b ok = inl (λ x'. refl)
+x_fixed_or_ignored vector (Direct rm) x b ok = inl (λ x'. refl)
+x_fixed_or_ignored vector (Based rm d) x b ok = inl (λ x'. refl)
+x_fixed_or_ignored vector (RipBased n) x b ok = inl (λ x'. refl)
+x_fixed_or_ignored vector (Scaled k i j d) x b ok = inr (x_of-index_of vector k i x ok.1)
+x_fixed_or_ignored vector (Baseless k i n) x b ok = inr (x_of-index_of vector k i x ok.1)
 
 -- B plays no part, or is the bit that the target demands
-pub b_fixed_or_ignored : (p : Place) (x b : Bool) → IsPlace p → ((b' : Bool) → target p x b' ≡ target p x b) ⊎ (b_of (target p x b) ≡ b)
-b_fixed_or_ignored NoPlace x b ok = inl (λ b'. refl)
-b_fixed_or_ignored (Direct rm) x b ok = inr (is_upper-field rm b ok)
-b_fixed_or_ignored (Based rm d) x b ok = inr (is_upper-field rm b ok.0)
-b_fixed_or_ignored (RipBased n) x b ok = inl (λ b'. refl)
-b_fixed_or_ignored (Scaled k i j d) x b ok = inr (is_upper-field j b ok.2)
-b_fixed_or_ignored (Baseless k i n) x b ok = inl (λ b'. refl)
+pub b_fixed_or_ignored : (vector : Bool) (p : Place) (x b : Bool) → IsPlace p → ((b' : Bool) → target vector p x b' ≡ target vector p x b) ⊎ (b_of (target vector p x b) ≡ b)
+b_fixed_or_ignored vector NoPlace x b ok = inl (λ b'. refl)
+b_fixed_or_ignored vector (Direct rm) x b ok = inr (is_upper-field rm b ok)
+b_fixed_or_ignored vector (Based rm d) x b ok = inr (is_upper-field rm b ok.0)
+b_fixed_or_ignored vector (RipBased n) x b ok = inl (λ b'. refl)
+b_fixed_or_ignored vector (Scaled k i j d) x b ok = inr (is_upper-field j b ok.2)
+b_fixed_or_ignored vector (Baseless k i n) x b ok = inl (λ b'. refl)
 
 -- where the target demands X, it is 1
-pub x_of-target : (p : Place) (x b : Bool) → IsPlace p → x_of (target p x b) ≡ true → x ≡ true
-x_of-target NoPlace x b ok h = cc
-x_of-target (Direct rm) x b ok h = cc
-x_of-target (Based rm d) x b ok h = cc
-x_of-target (RipBased n) x b ok h = cc
-x_of-target (Scaled k i j d) x b ok h = sym (x_of-index_of k i x ok.1) ∙ h
-x_of-target (Baseless k i n) x b ok h = sym (x_of-index_of k i x ok.1) ∙ h
+pub x_of-target : (vector : Bool) (p : Place) (x b : Bool) → IsPlace p → x_of (target vector p x b) ≡ true → x ≡ true
+x_of-target vector NoPlace x b ok h = cc
+x_of-target vector (Direct rm) x b ok h = cc
+x_of-target vector (Based rm d) x b ok h = cc
+x_of-target vector (RipBased n) x b ok h = cc
+x_of-target vector (Scaled k i j d) x b ok h = sym (x_of-index_of vector k i x ok.1) ∙ h
+x_of-target vector (Baseless k i n) x b ok h = sym (x_of-index_of vector k i x ok.1) ∙ h
 
 -- where the target demands B, it is 1
-pub b_of-target : (p : Place) (x b : Bool) → IsPlace p → b_of (target p x b) ≡ true → b ≡ true
-b_of-target NoPlace x b ok h = cc
-b_of-target (Direct rm) x b ok h = sym (is_upper-field rm b ok) ∙ h
-b_of-target (Based rm d) x b ok h = sym (is_upper-field rm b ok.0) ∙ h
-b_of-target (RipBased n) x b ok h = cc
-b_of-target (Scaled k i j d) x b ok h = sym (is_upper-field j b ok.2) ∙ h
-b_of-target (Baseless k i n) x b ok h = cc
+pub b_of-target : (vector : Bool) (p : Place) (x b : Bool) → IsPlace p → b_of (target vector p x b) ≡ true → b ≡ true
+b_of-target vector NoPlace x b ok h = cc
+b_of-target vector (Direct rm) x b ok h = sym (is_upper-field rm b ok) ∙ h
+b_of-target vector (Based rm d) x b ok h = sym (is_upper-field rm b ok.0) ∙ h
+b_of-target vector (RipBased n) x b ok h = cc
+b_of-target vector (Scaled k i j d) x b ok h = sym (is_upper-field j b ok.2) ∙ h
+b_of-target vector (Baseless k i n) x b ok h = cc
 
 -- ---- banks
 

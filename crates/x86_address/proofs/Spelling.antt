@@ -1,7 +1,8 @@
 -- The bytes that spell a target: they are the bytes of one place.
 use Rattle.std.proofs.Common.{◌≡◌, ◌≢◌, ◌⊎◌, inl, inr, ⊎_elim, ℕ, ◌/◌, ◌%◌, ◌<◌, Ok, arith, ◌≤◌, Bool, true, List, [], ◌∷◌, ◌++◌, length, refl, sym, ap, ◌∙◌, subst, subst₂, append-nil}
-use Rattle.x86_operand.specs.Kind.{Kind, WithoutModRM, InRegister, InMemory}
+use Rattle.x86_operand.specs.Kind.{Kind, WithoutModRM, InRegister, InMemory, is_vector, plain_kind}
 use Rattle.x86_address.specs.Place.{Place, NoPlace, IsPlace, kind_of, mod_of, rm_of, tail_of, place_bytes, Target, kind_of_target, target, SpellsTarget}
+use Rattle.x86_address.specs.Place.Laws.{vector_in_memory, plain_without}
 use Rattle.x86_address.specs.Reading.{take_place}
 use Rattle.x86_address.specs.Shortest.{shortest, x_of, b_of, IsSpellable}
 use Rattle.x86_address.specs.Laws.{OnlySpellable, ShortestSpells, ShortestIsLeast, XIsFixed, BIsFixed, DemandedIsSet, ReadingIsSpelling, ReadingFails, OnePlace, OneReading}
@@ -9,31 +10,34 @@ use Rattle.x86_address.proofs.Fields.{same_fields}
 use Rattle.x86_address.proofs.Reader.{same_read}
 use Rattle.x86_address.proofs.Reading.{take_place-again, take_place-fails, modrm-written, modrm-again}
 use Rattle.x86_address.proofs.PlaceBytes.{has_modrm, place_bytes_split, rm_of_below, place_bytes_none}
-use Rattle.x86_address.proofs.Shortest.{is_place-shortest, kind_of-shortest, kind_of_target-target, names-shortest, IsSpellable-target, shortest-least, x_fixed_or_ignored, b_fixed_or_ignored, x_of-target, b_of-target}
+use Rattle.x86_address.proofs.Shortest.{is_place-shortest, kind_of-shortest, kind_of_target-target, names-shortest, sib-shortest, IsSpellable-target, shortest-least, x_fixed_or_ignored, b_fixed_or_ignored, x_of-target, b_of-target}
 
 -- what bytes spell is in range, and of their kind
 pub only_spellable : OnlySpellable
 only_spellable bytes kind reg x b e s =
-    subst (λ e. (kind ≡ kind_of_target e) × IsSpellable e) (sym s.names) (sym s.is_kind ∙ sym (kind_of_target-target s.place x b), IsSpellable-target s.place x b s.is_place)
+    subst (λ e. (kind_of_target e ≡ plain_kind kind) × IsSpellable (is_vector kind) e) (sym s.names) (kind_of_target-target (is_vector kind) s.place x b ∙ s.is_kind.plain, IsSpellable-target (is_vector kind) s.place x b s.is_place s.is_kind.sib)
 
 -- the shortest place spells what can be spelled
 pub shortest_spells : ShortestSpells
-shortest_spells reg e below ok = record {
+shortest_spells kind reg e below k ok = record {
   is_reg = below;
   place = shortest e;
   is_place = is_place-shortest e;
-  is_kind = kind_of-shortest e;
+  is_kind = record {
+    plain = kind_of-shortest e ∙ k;
+    sib = λ vector. sib-shortest e (k ∙ vector_in_memory kind vector) (subst (λ v. IsSpellable v e) vector ok);
+  };
   written = refl;
-  names = sym (names-shortest e ok);
+  names = sym (names-shortest (is_vector kind) e ok);
 }
 
 -- no bytes that spell it are fewer
 pub shortest_is_least : ShortestIsLeast
 shortest_is_least bytes kind reg other x b e s =
-    subst₂ (λ e bytes. length (place_bytes other (shortest e)) ≤ length bytes) (sym s.names) (sym s.written) (shortest-least s.place x b other reg s.is_place)
+    subst₂ (λ e bytes. length (place_bytes other (shortest e)) ≤ length bytes) (sym s.names) (sym s.written) (shortest-least (is_vector kind) s.place x b other reg s.is_place)
 
 -- the same bytes with other bits, where they name the same
-spells_with : (bytes : List ℕ) (kind : Kind) (reg : ℕ) (x b x' b' : Bool) (e : Target) → (s : SpellsTarget bytes kind reg x b e) → target s.place x' b' ≡ target s.place x b → SpellsTarget bytes kind reg x' b' e
+spells_with : (bytes : List ℕ) (kind : Kind) (reg : ℕ) (x b x' b' : Bool) (e : Target) → (s : SpellsTarget bytes kind reg x b e) → target (is_vector kind) s.place x' b' ≡ target (is_vector kind) s.place x b → SpellsTarget bytes kind reg x' b' e
 spells_with bytes kind reg x b x' b' e s same = record {
   is_reg = s.is_reg;
   place = s.place;
@@ -46,17 +50,17 @@ spells_with bytes kind reg x b x' b' e s same = record {
 -- X is as the target demands, or plays no part
 pub x_is_fixed : XIsFixed
 x_is_fixed bytes kind reg x b e s =
-    ⊎_elim (λ ignored. inr (λ other. spells_with bytes kind reg x b other b e s (ignored other))) (λ fixed. inl (sym fixed ∙ ap x_of (sym s.names))) (x_fixed_or_ignored s.place x b s.is_place)
+    ⊎_elim (λ ignored. inr (λ other. spells_with bytes kind reg x b other b e s (ignored other))) (λ fixed. inl (sym fixed ∙ ap x_of (sym s.names))) (x_fixed_or_ignored (is_vector kind) s.place x b s.is_place)
 
 -- B is as the target demands, or plays no part
 pub b_is_fixed : BIsFixed
 b_is_fixed bytes kind reg x b e s =
-    ⊎_elim (λ ignored. inr (λ other. spells_with bytes kind reg x b x other e s (ignored other))) (λ fixed. inl (sym fixed ∙ ap b_of (sym s.names))) (b_fixed_or_ignored s.place x b s.is_place)
+    ⊎_elim (λ ignored. inr (λ other. spells_with bytes kind reg x b x other e s (ignored other))) (λ fixed. inl (sym fixed ∙ ap b_of (sym s.names))) (b_fixed_or_ignored (is_vector kind) s.place x b s.is_place)
 
 -- a bit that is demanded is 1
 pub demanded_is_set : DemandedIsSet
 demanded_is_set bytes kind reg x b e s =
-    subst (λ e. (x_of e ≡ true → x ≡ true) × (b_of e ≡ true → b ≡ true)) (sym s.names) (x_of-target s.place x b s.is_place, b_of-target s.place x b s.is_place)
+    subst (λ e. (x_of e ≡ true → x ≡ true) × (b_of e ≡ true → b ≡ true)) (sym s.names) (x_of-target (is_vector kind) s.place x b s.is_place, b_of-target (is_vector kind) s.place x b s.is_place)
 
 -- places that are read from one string by one mod and rm are one
 same_place : (p p' : Place) (rest rest' : List ℕ) → IsPlace p → IsPlace p' → (kind_of p ≡ InRegister) ⊎ (kind_of p ≡ InMemory) → (kind_of p' ≡ InRegister) ⊎ (kind_of p' ≡ InMemory) → mod_of p ≡ mod_of p' → rm_of p ≡ rm_of p' → tail_of p ++ rest ≡ tail_of p' ++ rest' → (p ≡ p') × (rest ≡ rest')
@@ -93,11 +97,11 @@ modrm_follows reg reg' p p' more has same none =
 -- address bytes begin no other's, and name one target
 pub one_reading : OneReading
 one_reading bytes more kind kind' reg reg' x b e e' modrm s s' =
-    let has = has_modrm s.place (λ none. modrm (sym s.is_kind ∙ none)) in
+    let has = has_modrm s.place (λ none. modrm (plain_without kind (sym s.is_kind.plain ∙ none))) in
     let same = ap (λ bytes. bytes ++ more) (sym s.written) ∙ s'.written in
     let has' = has_modrm s'.place (modrm_follows reg reg' s.place s'.place more has same) in
     let one = place_bytes-prefix reg reg' s.place s'.place more [] s.is_reg s'.is_reg s.is_place s'.is_place has has' (same ∙ sym (append-nil _)) in
-    (one.2, one.0, s.names ∙ ap (λ p. target p x b) one.1 ∙ sym s'.names)
+    (one.2, one.0, sym s.is_kind.plain ∙ ap kind_of one.1 ∙ s'.is_kind.plain, λ kinds. s.names ∙ ap (λ p. target (is_vector kind) p x b) one.1 ∙ ap (λ k. target (is_vector k) s'.place x b) kinds ∙ sym s'.names)
 
 -- the bytes of a place are read as that place
 read_modrm : (modrm : ℕ) (bytes : List ℕ) (p : Place) (rest : List ℕ) → modrm < 256 → IsPlace p → (kind_of p ≡ InRegister) ⊎ (kind_of p ≡ InMemory) → modrm ∷ bytes ≡ place_bytes ((modrm / 8) % 8) p ++ rest → take_place (modrm / 64) (modrm % 8) bytes ≡ Ok (p, rest)

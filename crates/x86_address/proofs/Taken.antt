@@ -1,20 +1,21 @@
 -- What the bytes that a reader gave for an address spell, and what those that it gave before it refused one lack.
-use Rattle.std.proofs.Common.{◌≡◌, ◌∙◌, ap, ap₂, sym, subst, ne_eqb, arith, refl, ℕ, Bool, true, false, ◌/◌, ◌%◌, ◌<◌, ◌==◌, ◌&&◌, if◌then◌else◌, List, [], ◌∷◌, ◌++◌, length, Result, Ok, Err, IsErr, OnErr, append-nil}
+use Rattle.std.proofs.Common.{◌≡◌, ◌≢◌, ◌∙◌, ap, ap₂, sym, subst, ne_eqb, eq-eqb, arith, refl, ℕ, Bool, true, false, ◌/◌, ◌%◌, ◌<◌, ◌==◌, ◌&&◌, if◌then◌else◌, List, [], ◌∷◌, ◌++◌, length, Result, Ok, Err, IsErr, OnErr, append-nil}
 use Rattle.std.specs.Prelude.{IfOk, IfErr}
 use Rattle.std.proofs.lemmas.List.Elements.{recursion_from_All}
-use Rattle.x86_operand.specs.Kind.{Kind, InMemory}
+use Rattle.x86_operand.specs.Kind.{Kind, InMemory, VectorIndexed, is_vector, plain_kind}
 use Rattle.x86_operand.specs.declared.error.DecodeError.{DecodeError}
 use Rattle.x86_operand.specs.declared.error.DecodeError.TheVariants.{ExhaustedInput}
 use Rattle.x86_operand.specs.declared.address.Address.{Address}
 use Rattle.x86_operand.specs.declared.register.RegisterBank.TheVariants.{Q}
 use Rattle.x86_reader.specs.Reader.{ReaderState, IsByte, Takes, Stops, Passes}
 use Rattle.x86_address.specs.Bytes.{IsBytes, Short, Long}
-use Rattle.x86_address.specs.Place.{Place, kind_of, tail_of, PlainAddress, Target, NoTarget, Number, At, kind_of_target, target, SpellsTarget}
+use Rattle.x86_address.specs.Place.{Place, kind_of, IsOfKind, tail_of, PlainAddress, Target, NoTarget, Number, At, kind_of_target, target, SpellsTarget}
+use Rattle.x86_address.specs.Place.Laws.{sib_by_rm}
 use Rattle.x86_address.specs.Shortest.{plain, in_banks}
 use Rattle.x86_address.specs.Reading.{Reading, take_byte, take_doubleword, take_displacement, take_baseless, take_scaled, take_sib, take_place}
 use Rattle.x86_address.specs.Most.Laws.{most_place}
 use Rattle.x86_address.specs.Follows.{Same, Follows}
-use Rattle.x86_address.specs.Follows.Laws.{takes_all, fails_at_end, most_taken}
+use Rattle.x86_address.specs.Follows.Laws.{takes_all, fails_at_end, most_taken, follows_true, follows_false}
 use Rattle.x86_address.specs.Reads.{NamesAddress, SpelledBy, CutShort}
 use Rattle.x86_address.proofs.Fields.{low_field_below}
 use Rattle.x86_address.proofs.PlaceBytes.{IsBytes-append, has_modrm, place_bytes_split, place_bytes_none}
@@ -27,27 +28,40 @@ use Rattle.x86_address.proofs.Completing.{fails_before, completable_place}
 IsBytes-taken : {old new : ReaderState} {bytes : List ℕ} → Passes old new bytes → IsBytes bytes
 IsBytes-taken {bytes = bytes} passes = recursion_from_All IsByte bytes passes.each
 
--- a place that is read after a ModRM byte of memory is in memory
+-- a ModRM byte below C0 hex names an address in memory, and one with SIB where the field rm is 4
+pub record IsAfter (kind : Kind) (modrm : ℕ) : Type 0 where
+  pub memory : modrm < 192
+  pub plain : plain_kind kind ≡ InMemory
+  pub sib : is_vector kind ≡ true → modrm % 8 ≡ 4
+
+-- a place that is read after a ModRM byte of memory is in memory, and has a SIB byte where a vector register is its index
 kind_in_memory : (modrm : ℕ) (bytes : List ℕ) (place : Place) → modrm < 192 → IsBytes bytes → take_place (modrm / 64) (modrm % 8) bytes ≡ Ok (place, []) → kind_of place ≡ InMemory
 kind_in_memory modrm bytes place memory are read =
     (modrm-written modrm bytes (omega arith) are place [] read).kind_is ∙ rw (ne_eqb (modrm / 64) 3 (omega arith)) refl
 
+is_of_kind : (kind : Kind) (modrm : ℕ) (bytes : List ℕ) (place : Place) → IsAfter kind modrm → IsBytes bytes → take_place (modrm / 64) (modrm % 8) bytes ≡ Ok (place, []) → IsOfKind kind place
+is_of_kind kind modrm bytes place after are read =
+    let spelled = modrm-written modrm bytes (omega (arith, after.memory)) are place [] read in
+    let plain = kind_in_memory modrm bytes place after.memory are read in
+    record { plain = plain ∙ sym after.plain; sib = λ vector. sib_by_rm place spelled.is_place plain (spelled.rm_is ∙ after.sib vector) }
+
 -- bytes that are read whole as a place spell with ModRM what that names
-spells_place : (modrm : ℕ) (bytes : List ℕ) (place : Place) {x b : Bool} {e : Target} → modrm < 192 → IsBytes bytes → take_place (modrm / 64) (modrm % 8) bytes ≡ Ok (place, []) → target place x b ≡ e → SpellsTarget (modrm ∷ bytes) InMemory ((modrm / 8) % 8) x b e
-spells_place modrm bytes place memory are read names =
+spells_place : (kind : Kind) (modrm : ℕ) (bytes : List ℕ) (place : Place) {x b : Bool} {e : Target} → IsAfter kind modrm → IsBytes bytes → take_place (modrm / 64) (modrm % 8) bytes ≡ Ok (place, []) → target (is_vector kind) place x b ≡ e → SpellsTarget (modrm ∷ bytes) kind ((modrm / 8) % 8) x b e
+spells_place kind modrm bytes place after are read names =
+    let memory = after.memory in
     let spelled = modrm-written modrm bytes (omega arith) are place [] read in
     record {
       is_reg = low_field_below (modrm / 8);
       place = place;
       is_place = spelled.is_place;
-      is_kind = kind_in_memory modrm bytes place memory are read;
+      is_kind = is_of_kind kind modrm bytes place after are read;
       written = spelled.written ∙ append-nil _;
       names = sym names;
     }
 
 -- what was read after ModRM spells the address
-spelled_by : {modrm : ℕ} {x b : Bool} {address : Address} {old new : ReaderState} → modrm < 192 → Follows (take_place (modrm / 64) (modrm % 8)) (NamesAddress x b) old new (Ok address) → SpelledBy modrm x b address old new
-spelled_by {modrm} {x} {b} {address} memory f =
+spelled_by : (kind : Kind) {modrm : ℕ} {x b : Bool} {address : Address} {old new : ReaderState} → IsAfter kind modrm → Follows (take_place (modrm / 64) (modrm % 8)) (NamesAddress (is_vector kind) x b) old new (Ok address) → SpelledBy kind modrm x b address old new
+spelled_by kind {modrm} {x} {b} {address} after f =
     let place = f.answers.0 in
     let named = f.answers.1 in
     let are = IsBytes-taken f.passes in
@@ -58,7 +72,7 @@ spelled_by {modrm} {x} {b} {address} memory f =
       most = most_taken 5 (most_place (modrm / 64) (modrm % 8)) (Ok address) f;
       spells = record {
         plain_address = plain address;
-        spells = spells_place modrm f.bytes place memory are again named.names;
+        spells = spells_place kind modrm f.bytes place after are again named.names;
         banks = named.banks;
       };
     }
@@ -117,19 +131,19 @@ address_in_memory (Number n) h = cc
 address_in_memory (At a) h = (a, refl)
 
 -- where the reader stopped, some address begins so, and more bytes are wanted in whatever spelling begins so
-cut_short : {modrm : ℕ} {x b : Bool} {old new : ReaderState} {bytes : List ℕ} → modrm < 192 → Stops old new bytes → take_place (modrm / 64) (modrm % 8) bytes ≡ Err (ExhaustedInput, []) → CutShort modrm x b old new
-cut_short {modrm} {x} {b} {bytes = bytes} memory stops lacking =
+cut_short : (kind : Kind) {modrm : ℕ} {x b : Bool} {old new : ReaderState} {bytes : List ℕ} → IsAfter kind modrm → Stops old new bytes → take_place (modrm / 64) (modrm % 8) bytes ≡ Err (ExhaustedInput, []) → CutShort kind modrm x b old new
+cut_short kind {modrm} {x} {b} {bytes = bytes} after stops lacking =
     let step = take_place (modrm / 64) (modrm % 8) in
     let failed : IsErr (step bytes) = rw lacking refl in
     let most = below_place (modrm / 64) (modrm % 8) bytes failed in
     let more = completable_place (modrm / 64) (modrm % 8) bytes failed in
     let are = IsBytes-append bytes more.missing (IsBytes-taken stops.passes) more.are in
-    let named = address_in_memory (target more.value x b) (kind_of_target-target more.value x b ∙ kind_in_memory modrm (bytes ++ more.missing) more.value memory are more.answers) in
+    let named = address_in_memory (target (is_vector kind) more.value x b) (kind_of_target-target (is_vector kind) more.value x b ∙ kind_in_memory modrm (bytes ++ more.missing) more.value after.memory are more.answers) in
     record {
       bytes = bytes;
       stops = stops;
       most = omega arith;
-      fewer = λ rest kind reg x b e s none.
+      fewer = λ rest other reg x b e s none.
           let whole : step (bytes ++ rest) ≡ Ok (s.place, []) = read_whole s in
           let same : bytes ++ rest ≡ bytes = ap (λ rest. bytes ++ rest) none ∙ append-nil bytes in
           let read = sym (ap step same) ∙ whole in
@@ -138,32 +152,46 @@ cut_short {modrm} {x} {b} {bytes = bytes} memory stops lacking =
       address = in_banks Q named.0;
       spells = record {
         plain_address = named.0;
-        spells = spells_place modrm (bytes ++ more.missing) more.value memory are more.answers named.1;
+        spells = spells_place kind modrm (bytes ++ more.missing) more.value after are more.answers named.1;
         banks = refl;
       };
     }
 
 -- an error of the step is that a byte was refused
-only_exhausted : (modrm : ℕ) {x b : Bool} {old new : ReaderState} (error : DecodeError) → Follows (take_place (modrm / 64) (modrm % 8)) (NamesAddress x b) old new (Err error) → error ≡ ExhaustedInput
+only_exhausted : (modrm : ℕ) {vector x b : Bool} {old new : ReaderState} (error : DecodeError) → Follows (take_place (modrm / 64) (modrm % 8)) (NamesAddress vector x b) old new (Err error) → error ≡ ExhaustedInput
 only_exhausted modrm error f = ap (λ e. e.0) (take_place-fails (modrm / 64) (modrm % 8) f.bytes (error, []) (fails_at_end error f))
 
 -- ---- what a call says to its caller
 
-module _ (modrm : ℕ) {x b : Bool} {old new : ReaderState} where
-  pub if_spelled : (result : Result Address DecodeError) → modrm < 192 → Follows (take_place (modrm / 64) (modrm % 8)) (NamesAddress x b) old new result → IfOk result (λ address. SpelledBy modrm x b address old new)
-  if_spelled (Ok address) memory f = spelled_by memory f
-  if_spelled (Err error) memory f = tt
+-- with SIB after ModRM the place is that of SIB
+pub placed_sib : (modrm : ℕ) {vector x b : Bool} {old new : ReaderState} {result : Result Address DecodeError} → modrm < 192 → modrm % 8 ≡ 4 → Follows (take_sib (modrm / 64)) (NamesAddress vector x b) old new result → Follows (take_place (modrm / 64) (modrm % 8)) (NamesAddress vector x b) old new result
+placed_sib modrm memory sib f =
+    let other : modrm / 64 ≢ 3 = omega arith in
+    follows_false _ _ _ (ne_eqb (modrm / 64) 3 other) (follows_true _ _ _ (eq-eqb (modrm % 8) 4 sib) f)
 
-  pub if_exhausted : (result : Result Address DecodeError) → Follows (take_place (modrm / 64) (modrm % 8)) (NamesAddress x b) old new result → IfErr result (λ error. error ≡ ExhaustedInput)
+-- any address after a ModRM byte below C0 hex
+pub after_memory : {modrm : ℕ} → modrm < 192 → IsAfter InMemory modrm
+after_memory memory = record { memory = memory; plain = refl; sib = λ vector. cc }
+
+-- and one with a vector register as its index, where there is a SIB byte
+pub after_vector : {modrm : ℕ} → modrm < 192 → modrm % 8 ≡ 4 → IsAfter VectorIndexed modrm
+after_vector memory sib = record { memory = memory; plain = refl; sib = λ vector. sib }
+
+module _ (kind : Kind) (modrm : ℕ) {x b : Bool} {old new : ReaderState} where
+  pub if_spelled : (result : Result Address DecodeError) → IsAfter kind modrm → Follows (take_place (modrm / 64) (modrm % 8)) (NamesAddress (is_vector kind) x b) old new result → IfOk result (λ address. SpelledBy kind modrm x b address old new)
+  if_spelled (Ok address) after f = spelled_by kind after f
+  if_spelled (Err error) after f = tt
+
+  pub if_exhausted : (result : Result Address DecodeError) → Follows (take_place (modrm / 64) (modrm % 8)) (NamesAddress (is_vector kind) x b) old new result → IfErr result (λ error. error ≡ ExhaustedInput)
   if_exhausted (Ok address) f = tt
   if_exhausted (Err error) f = only_exhausted modrm error f
 
-  pub on_cut_short : (result : Result Address DecodeError) → modrm < 192 → Follows (take_place (modrm / 64) (modrm % 8)) (NamesAddress x b) old new result → OnErr result (CutShort modrm x b old new)
-  on_cut_short (Ok address) memory f = tt
-  on_cut_short (Err error) memory f =
+  pub on_cut_short : (result : Result Address DecodeError) → IsAfter kind modrm → Follows (take_place (modrm / 64) (modrm % 8)) (NamesAddress (is_vector kind) x b) old new result → OnErr result (CutShort kind modrm x b old new)
+  on_cut_short (Ok address) after f = tt
+  on_cut_short (Err error) after f =
       let is = only_exhausted modrm error f in
       let stops : Stops old new f.bytes = record { passes = f.passes; counted = f.counts.counted is } in
-      cut_short memory stops (fails_at_end error f ∙ ap (λ e. Err (e, [])) is)
+      cut_short kind after stops (fails_at_end error f ∙ ap (λ e. Err (e, [])) is)
 
 -- a byte, and no other error than that it was refused
 module _ {old new : ReaderState} where

@@ -2,7 +2,7 @@
 use Rattle.std.specs.Prelude.{◌≡◌, ◌≢◌, ◌⊎◌, ◌↔◌, ◌/◌, ◌%◌, ◌∷◌, Ok, Err, true, ℕ, ◌<◌, ◌≤◌, Bool, List, [], ◌++◌, length}
 use Rattle.x86_operand.specs.declared.error.DecodeError.{DecodeError}
 use Rattle.x86_operand.specs.declared.error.DecodeError.TheVariants.{ExhaustedInput}
-use Rattle.x86_operand.specs.Kind.{Kind, WithoutModRM}
+use Rattle.x86_operand.specs.Kind.{Kind, WithoutModRM, is_vector, plain_kind}
 use Rattle.x86_address.specs.Bytes.{IsBytes}
 use Rattle.x86_address.specs.Place.{Place, IsPlace, kind_of, place_bytes, Target, kind_of_target, SpellsTarget}
 use Rattle.x86_address.specs.Reading.{take_place}
@@ -12,13 +12,13 @@ use Rattle.x86_address.specs.Shortest.{shortest, x_of, b_of, IsSpellable}
 abbrev pub OnlySpellable : Type 0
 OnlySpellable =
     (bytes : List ℕ) (kind : Kind) (reg : ℕ) (x b : Bool) (e : Target) → SpellsTarget bytes kind reg x b e
-    → (kind ≡ kind_of_target e) × IsSpellable e
+    → (kind_of_target e ≡ plain_kind kind) × IsSpellable (is_vector kind) e
 
 -- and each of those is named by the bytes of its shortest place, with the bits X and B that it demands
 abbrev pub ShortestSpells : Type 0
 ShortestSpells =
-    (reg : ℕ) (e : Target) → reg < 8 → IsSpellable e
-    → SpellsTarget (place_bytes reg (shortest e)) (kind_of_target e) reg (x_of e) (b_of e) e
+    (kind : Kind) (reg : ℕ) (e : Target) → reg < 8 → kind_of_target e ≡ plain_kind kind → IsSpellable (is_vector kind) e
+    → SpellsTarget (place_bytes reg (shortest e)) kind reg (x_of e) (b_of e) e
 
 -- no bytes that name it, with whatever reg, X and B, are fewer than those of the shortest place
 abbrev pub ShortestIsLeast : Type 0
@@ -51,12 +51,12 @@ OnePlace =
     (reg other_reg : ℕ) (place other : Place) → reg < 8 → other_reg < 8 → IsPlace place → IsPlace other
     → place_bytes reg place ≡ place_bytes other_reg other → place ≡ other
 
--- the bytes of an address begin those of no other, and name one target with one reg field
+-- the bytes of an address begin those of no other, and name one target of a kind, with one reg field
 abbrev pub OneReading : Type 0
 OneReading =
     (bytes more : List ℕ) (kind other_kind : Kind) (reg other_reg : ℕ) (x b : Bool) (e other : Target) → kind ≢ WithoutModRM
     → SpellsTarget bytes kind reg x b e → SpellsTarget (bytes ++ more) other_kind other_reg x b other
-    → (more ≡ []) × (reg ≡ other_reg) × (e ≡ other)
+    → (more ≡ []) × (reg ≡ other_reg) × (plain_kind kind ≡ plain_kind other_kind) × (kind ≡ other_kind → e ≡ other)
 
 -- what follows a ModRM byte is read as a place exactly where ModRM and the bytes taken are the bytes of that place
 abbrev pub ReadingIsSpelling : Type 0

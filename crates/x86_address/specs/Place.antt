@@ -1,6 +1,7 @@
-use Rattle.std.specs.Prelude.{◌≡◌, ◌≢◌, ℕ, ◌+◌, ◌*◌, ◌^◌, ◌<◌, ℤ, Bool, List, [], ◌∷◌, Option, Some, None, ◌==◌, if◌then◌else◌}
+pub mod Laws
+use Rattle.std.specs.Prelude.{◌≡◌, ◌≢◌, ℕ, ◌+◌, ◌*◌, ◌^◌, ◌<◌, ℤ, Bool, true, false, not, ◌&&◌, List, [], ◌∷◌, Option, Some, None, ◌==◌, if◌then◌else◌}
 use Rattle.std.specs.Int.{cast_signed, w32}
-use Rattle.x86_operand.specs.Kind.{Kind, WithoutModRM, InRegister, InMemory}
+use Rattle.x86_operand.specs.Kind.{Kind, WithoutModRM, InRegister, InMemory, is_vector, plain_kind}
 use Rattle.x86_address.specs.Bytes.{bit, doubleword_bytes, Displacement, Absent, Short, Long, IsDisplacement, displacement_bytes, displacement_value}
 
 -- how the bytes from ModRM on name the operand E, by its fields: rm of ModRM, or the scale's exponent k, the index
@@ -13,7 +14,7 @@ pub data Place : Type 0 where
   Scaled : (k i j : ℕ) (d : Displacement) → Place
   Baseless : (k i n : ℕ) → Place
 
--- the kind of operand that a place names
+-- the kind of operand that a place names, whatever index an address has
 abbrev pub kind_of : Place → Kind
 kind_of NoPlace = WithoutModRM
 kind_of (Direct rm) = InRegister
@@ -21,6 +22,20 @@ kind_of (Based rm d) = InMemory
 kind_of (RipBased n) = InMemory
 kind_of (Scaled k i j d) = InMemory
 kind_of (Baseless k i n) = InMemory
+
+-- whether a place has a SIB byte
+abbrev pub has_sib : Place → Bool
+has_sib NoPlace = false
+has_sib (Direct rm) = false
+has_sib (Based rm d) = false
+has_sib (RipBased n) = false
+has_sib (Scaled k i j d) = true
+has_sib (Baseless k i n) = true
+
+-- a place is of a kind: where the index is a vector register there is a SIB byte (Intel SDM volume 2, section 2.3.12)
+pub record IsOfKind (kind : Kind) (place : Place) : Type 0 where
+  pub plain : kind_of place ≡ plain_kind kind
+  pub sib : is_vector kind ≡ true → has_sib place ≡ true
 
 -- with mod 0 the base field 5 has another meaning, so a base 5 is written with a displacement
 -- (Intel SDM volume 2, section 2.1.5)
@@ -94,32 +109,32 @@ pub data Target : Type 0 where
   Number : ℕ → Target
   At : PlainAddress → Target
 
--- the kind of operand that a target is
+-- the kind of operand that a target is, whatever index an address has
 abbrev pub kind_of_target : Target → Kind
 kind_of_target NoTarget = WithoutModRM
 kind_of_target (Number n) = InRegister
 kind_of_target (At a) = InMemory
 
--- the index of exponent, index field and X: the number 4 means no index, and the scale then plays no part
--- (Intel SDM volume 2, section 2.1.5)
-abbrev pub index_of : ℕ → ℕ → Bool → Option (ℕ × ℕ)
-index_of k i x = if i + 8 * bit x == 4 then None else Some (i + 8 * bit x, 2 ^ k)
+-- the index of exponent, index field and X: the number 4 means no index, and the scale then plays no part, but where the
+-- index is a vector register (Intel SDM volume 2, sections 2.1.5 and 2.3.12)
+abbrev pub index_of : Bool → ℕ → ℕ → Bool → Option (ℕ × ℕ)
+index_of vector k i x = if not vector && i + 8 * bit x == 4 then None else Some (i + 8 * bit x, 2 ^ k)
 
--- what a place names, with the bits X and B of the prefix
--- (Intel SDM volume 2, sections 2.1.5, 2.2.1.6, 2.3.5.3, 2.3.5.4 and 2.3.8)
-abbrev pub target : Place → Bool → Bool → Target
-target NoPlace x b = NoTarget
-target (Direct rm) x b = Number (rm + 8 * bit b)
-target (Based rm d) x b = At (record { base = Numbered (rm + 8 * bit b); index = None; disp = displacement_value d })
-target (RipBased n) x b = At (record { base = Rip; index = None; disp = cast_signed w32 n })
-target (Scaled k i j d) x b = At (record { base = Numbered (j + 8 * bit b); index = index_of k i x; disp = displacement_value d })
-target (Baseless k i n) x b = At (record { base = NoBase; index = index_of k i x; disp = cast_signed w32 n })
+-- what a place names, with the bits X and B of the prefix, and by whether the index is a vector register
+-- (Intel SDM volume 2, sections 2.1.5, 2.2.1.6, 2.3.5.3, 2.3.5.4, 2.3.8 and 2.3.12)
+abbrev pub target : Bool → Place → Bool → Bool → Target
+target vector NoPlace x b = NoTarget
+target vector (Direct rm) x b = Number (rm + 8 * bit b)
+target vector (Based rm d) x b = At (record { base = Numbered (rm + 8 * bit b); index = None; disp = displacement_value d })
+target vector (RipBased n) x b = At (record { base = Rip; index = None; disp = cast_signed w32 n })
+target vector (Scaled k i j d) x b = At (record { base = Numbered (j + 8 * bit b); index = index_of vector k i x; disp = displacement_value d })
+target vector (Baseless k i n) x b = At (record { base = NoBase; index = index_of vector k i x; disp = cast_signed w32 n })
 
 -- the bytes spell what is named, of this kind, with this reg field and these bits X and B
 pub record SpellsTarget (bytes : List ℕ) (kind : Kind) (reg : ℕ) (x b : Bool) (named : Target) : Type 0 where
   pub is_reg : reg < 8
   pub place : Place
   pub is_place : IsPlace place
-  pub is_kind : kind_of place ≡ kind
+  pub is_kind : IsOfKind kind place
   pub written : bytes ≡ place_bytes reg place
-  pub names : named ≡ target place x b
+  pub names : named ≡ target (is_vector kind) place x b

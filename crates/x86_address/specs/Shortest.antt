@@ -125,21 +125,28 @@ IsBase NoBase = Unit {0}
 IsBase Rip = Unit {0}
 IsBase (Numbered n) = n < 16
 
--- the number of an index is at most 15 and not 4, and its scale is 1, 2, 4 or 8
-abbrev pub IsIndex : Option (ℕ × ℕ) → Type 0
-IsIndex None = Unit {0}
-IsIndex (Some index) = (index.0 < 16) × (index.0 ≢ 4) × (exponent : ℕ) × (exponent < 4) × (index.1 ≡ 2 ^ exponent)
+-- the number 4 is an index where it is that of a vector register
+abbrev pub MayBeIndex : Bool → ℕ → Type 0
+MayBeIndex false n = n ≢ 4
+MayBeIndex true n = Unit {0}
+
+-- a vector register has to be there; the number of an index is at most 15, and 4 only of a vector register, and its
+-- scale is 1, 2, 4 or 8
+abbrev pub IsIndex : Bool → Option (ℕ × ℕ) → Type 0
+IsIndex vector None = vector ≡ false
+IsIndex vector (Some index) =
+    (index.0 < 16) × MayBeIndex vector index.0 × (exponent : ℕ) × (exponent < 4) × (index.1 ≡ 2 ^ exponent)
 
 -- an address that bytes can name: base and index in range, a displacement of 32 bits, and no index beside the
 -- instruction pointer
-pub record IsSpellableAddress (a : PlainAddress) : Type 0 where
+pub record IsSpellableAddress (vector : Bool) (a : PlainAddress) : Type 0 where
   pub base : IsBase a.base
-  pub index : IsIndex a.index
+  pub index : IsIndex vector a.index
   pub disp : FitsSigned w32 a.disp
   pub alone : a.base ≡ Rip → a.index ≡ None
 
--- what bytes can name: a register's number is at most 15
-abbrev pub IsSpellable : Target → Type 0
-IsSpellable NoTarget = Unit {0}
-IsSpellable (Number n) = n < 16
-IsSpellable (At a) = IsSpellableAddress a
+-- what bytes can name, by whether an index is a vector register: a register's number is at most 15
+abbrev pub IsSpellable : Bool → Target → Type 0
+IsSpellable vector NoTarget = Unit {0}
+IsSpellable vector (Number n) = n < 16
+IsSpellable vector (At a) = IsSpellableAddress vector a

@@ -1,18 +1,18 @@
-use Rattle.std.specs.Prelude.{◌≡◌, ◌≢◌, ◌⊎◌, ℕ, ◌+◌, ◌*◌, ◌^◌, ◌<◌, Bool, List, ◌∷◌, Option, Some, None}
+use Rattle.std.specs.Prelude.{◌≡◌, ◌⊎◌, ℕ, ◌+◌, ◌*◌, ◌^◌, ◌<◌, Bool, false, List, ◌∷◌, Option, Some, None}
 use Rattle.x86_operand.specs.declared.register.RegisterBank.{RegisterBank}
 use Rattle.x86_operand.specs.declared.register.RegisterBank.TheVariants.{Q, D, X, Y, Z, RIP}
 use Rattle.x86_operand.specs.declared.address.Address.{Address}
 use Rattle.x86_operand.specs.declared.address.Index.{Index}
 use Rattle.x86_operand.specs.Register.{Register}
-use Rattle.x86_operand.specs.Kind.{InMemory}
+use Rattle.x86_operand.specs.Kind.{Kind}
 use Rattle.x86_address.specs.Place.{Place, place_bytes, PlainAddress, At, SpellsTarget}
-use Rattle.x86_address.specs.Shortest.{in_banks}
+use Rattle.x86_address.specs.Shortest.{in_banks, MayBeIndex}
 
--- the bytes spell this address in memory, with this reg field and these bits X and B: its base is in bank Q or RIP, and
--- its index in bank Q
-pub record SpellsAddress (bytes : List ℕ) (reg : ℕ) (x b : Bool) (address : Address) : Type 0 where
+-- the bytes spell this address of a kind in memory, with this reg field and these bits X and B: its base is in bank Q or
+-- RIP, and its index in bank Q
+pub record SpellsAddress (bytes : List ℕ) (kind : Kind) (reg : ℕ) (x b : Bool) (address : Address) : Type 0 where
   pub plain_address : PlainAddress
-  pub spells : SpellsTarget bytes InMemory reg x b (At plain_address)
+  pub spells : SpellsTarget bytes kind reg x b (At plain_address)
   pub banks : address ≡ in_banks Q plain_address
 
 -- the base is of bank Q, or the instruction pointer with no index beside it
@@ -37,10 +37,11 @@ IsScale scale = (scale ≡ 1) ⊎ ((scale ≡ 2) ⊎ ((scale ≡ 4) ⊎ (scale �
 abbrev pub IsPower : ℕ → Type 0
 IsPower n = (exponent : ℕ) × (exponent < 4) × (n ≡ 2 ^ exponent)
 
--- there is no index, or one of bank Q with another number than 4 and a scale that SIB can say
-abbrev pub IndexFits : Option Index → Type 0
-IndexFits None = Unit {0}
-IndexFits (Some index) = (index.reg.bank ≡ Q) × (index.reg.num ≢ 4) × IsScale index.scale
+-- there is no index, but where a vector register has to be; or there is one of bank Q with a number and a scale that SIB
+-- can say
+abbrev pub IndexFits : Bool → Option Index → Type 0
+IndexFits vector None = vector ≡ false
+IndexFits vector (Some index) = (index.reg.bank ≡ Q) × MayBeIndex vector index.reg.num × IsScale index.scale
 
 -- the bytes of a place in memory begin with ModRM, whose field reg is 0: with another field it is 8 times that field
 -- more, and still below C0 hex

@@ -1,7 +1,8 @@
 //! Reading ModRM, an address and an immediate byte.
 
-ghost use Rattle.std.specs.Prelude.{◌≡◌, ◌<◌, ◌+◌, ◌*◌, ◌/◌, ◌%◌, [], ◌∷◌, IfOk, IfErr, OnErr};
+ghost use Rattle.std.specs.Prelude.{◌≡◌, ◌<◌, ◌+◌, ◌*◌, ◌/◌, ◌%◌, [], ◌∷◌, true, false, IfOk, IfErr, OnErr};
 ghost use Rattle.std.specs.Int.{cast_signed, w32};
+ghost use Rattle.x86_operand.specs.Kind.{InMemory, VectorIndexed};
 ghost use Rattle.x86_reader.specs.Reader.{Takes, Stops};
 ghost use Rattle.x86_address.specs.Bytes.{bit, displacement_value};
 ghost use Rattle.x86_address.specs.Place.{index_of};
@@ -47,20 +48,55 @@ pub fn read_address<R: Reader>(
 ) -> Result<Address, DecodeError>
     requires { modrm < 0xC0 }
 
-    ensures follows { Follows (take_place (modrm / 64) (modrm % 8)) (NamesAddress x b)
+    ensures follows { Follows (take_place (modrm / 64) (modrm % 8)) (NamesAddress false x b)
         (R.state words.old) (R.state words.new) result }
 
     // ModRM and the bytes taken, at most 5, spell the address.
     ensures spells { IfOk result (λ address.
-        SpelledBy modrm x b address (R.state words.old) (R.state words.new)) }
+        SpelledBy InMemory modrm x b address (R.state words.old) (R.state words.new)) }
     ensures error { IfErr result (λ error. error ≡ DecodeError.ExhaustedInput) }
 
     // After an error the bytes taken, at most 4, begin those of an address, and are fewer than the case wants.
-    ensures cut { OnErr result (CutShort modrm x b (R.state words.old) (R.state words.new)) }
-    ensures slice { OverSlice (take_place (modrm / 64) (modrm % 8)) (NamesAddress x b)
+    ensures cut { OnErr result (CutShort InMemory modrm x b (R.state words.old) (R.state words.new)) }
+    ensures slice { OverSlice (take_place (modrm / 64) (modrm % 8)) (NamesAddress false x b)
         (R.state words.old) (R.state words.new) result }
 {
     read_by_fields(words, modrm / 64, modrm % 8, x, b)
+}
+
+/// Reads SIB and displacement after a ModRM byte below C0 hex whose field rm is 4, and answers the address with a vector
+/// register as its index, with the bits X and B of the prefix. Its base is of bank `Q`, and so is its index, which a
+/// caller puts into the bank of the vector.
+///
+/// There always is an index: the number 4 is one like any other. All else is as `read_address` has it. (Intel SDM volume
+/// 2, sections 2.1.5, 2.3.8 and 2.3.12.)
+///
+/// Both numbers of the reader rise by the number of bytes taken, at most 5. `ExhaustedInput` comes only where the
+/// reader's count of refusals rose in this call or stands at its last value; over a `U8Reader`, exactly where a byte
+/// that the case wants isn't there, and then none is left. No other error comes.
+pub fn read_vector_address<R: Reader>(
+    words: &mut R,
+    modrm: u8,
+    x: bool,
+    b: bool,
+) -> Result<Address, DecodeError>
+    requires memory { modrm < 0xC0 }
+    requires sib { modrm % 8 ≡ 4 }
+
+    ensures follows { Follows (take_place (modrm / 64) (modrm % 8)) (NamesAddress true x b)
+        (R.state words.old) (R.state words.new) result }
+
+    // ModRM and the bytes taken, at most 5, spell the address.
+    ensures spells { IfOk result (λ address.
+        SpelledBy VectorIndexed modrm x b address (R.state words.old) (R.state words.new)) }
+    ensures error { IfErr result (λ error. error ≡ DecodeError.ExhaustedInput) }
+
+    // After an error the bytes taken, at most 4, begin those of an address, and are fewer than the case wants.
+    ensures cut { OnErr result (CutShort VectorIndexed modrm x b (R.state words.old) (R.state words.new)) }
+    ensures slice { OverSlice (take_place (modrm / 64) (modrm % 8)) (NamesAddress true x b)
+        (R.state words.old) (R.state words.new) result }
+{
+    read_by_sib(words, modrm / 64, true, x, b)
 }
 
 /// Reads the immediate byte (Intel SDM volume 2, section 2.1.4).
@@ -126,12 +162,12 @@ fn instruction_pointer() -> RegSpec
     RegSpec::of(RegisterBank::RIP, 0).unwrap()
 }
 
-// The index that SIB and X name: the number 4 means none.
-fn index_of(sib: u8, x: bool) -> Option<Index>
-    ensures { result ≡ index_register RegisterBank.Q (index_of (sib / 64) ((sib / 8) % 8) x) }
+// The index that SIB and X name: the number 4 means none, but of a vector register.
+fn index_of(sib: u8, vector: bool, x: bool) -> Option<Index>
+    ensures { result ≡ index_register RegisterBank.Q (index_of vector (sib / 64) ((sib / 8) % 8) x) }
 {
     let reg = general(sib / 8 % 8, x);
-    if reg.num() == 4 {
+    if !vector && reg.num() == 4 {
         return None;
     }
     Some(Index {
@@ -141,12 +177,18 @@ fn index_of(sib: u8, x: bool) -> Option<Index>
 }
 
 // The address that SIB begins, with mod 0, 1 or 2.
-fn read_by_sib<R: Reader>(words: &mut R, mode: u8, x: bool, b: bool) -> Result<Address, DecodeError>
+fn read_by_sib<R: Reader>(
+    words: &mut R,
+    mode: u8,
+    vector: bool,
+    x: bool,
+    b: bool,
+) -> Result<Address, DecodeError>
     requires { mode < 3 }
-    ensures { Follows (take_sib mode) (NamesAddress x b) (R.state words.old) (R.state words.new) result }
+    ensures { Follows (take_sib mode) (NamesAddress vector x b) (R.state words.old) (R.state words.new) result }
 {
     let sib = read_byte(words)?;
-    let index = index_of(sib, x);
+    let index = index_of(sib, vector, x);
     if mode == 0 && sib % 8 == 5 {
         let disp = read_doubleword(words)?;
         return Ok(Address {
@@ -170,10 +212,10 @@ fn read_by_fields<R: Reader>(
 ) -> Result<Address, DecodeError>
     requires memory { mode < 3 }
     requires field { rm < 8 }
-    ensures { Follows (take_place mode rm) (NamesAddress x b) (R.state words.old) (R.state words.new) result }
+    ensures { Follows (take_place mode rm) (NamesAddress false x b) (R.state words.old) (R.state words.new) result }
 {
     if rm == 4 {
-        return read_by_sib(words, mode, x, b);
+        return read_by_sib(words, mode, false, x, b);
     }
     if mode == 0 && rm == 5 {
         let disp = read_doubleword(words)?;

@@ -1,9 +1,10 @@
 //! The shortest bytes of an address.
 
-ghost use Rattle.std.specs.Prelude.{◌≡◌, ◌↔◌, ◌≤◌, ◌+◌, ◌*◌, ◌%◌, ◌<◌, ◌==◌, IsTrue, IsSome, IsNone, IfSome, ℕ, Bool, List, length, pos};
+ghost use Rattle.std.specs.Prelude.{◌≡◌, ◌↔◌, ◌≤◌, ◌+◌, ◌*◌, ◌%◌, ◌<◌, ◌==◌, true, false, IsTrue, IsSome, IsNone, IfSome, ℕ, Bool, List, length, pos};
 ghost use Rattle.arrayvec.specs.ArrayVec.{array_vec_len};
+ghost use Rattle.x86_operand.specs.Kind.{InMemory, VectorIndexed, memory_kind};
 ghost use Rattle.x86_address.specs.Place.{place_bytes, NoBase, Rip, Numbered, At};
-ghost use Rattle.x86_address.specs.Shortest.{plain, plain_base, base_register, plain_index, exponent_of, exponent_field, index_field, place_of_base, shortest, is_upper, x_of_index, b_of_base, x_of, b_of, IsBase, IsIndex};
+ghost use Rattle.x86_address.specs.Shortest.{plain, plain_base, base_register, plain_index, exponent_of, exponent_field, index_field, place_of_base, shortest, is_upper, x_of_index, b_of_base, x_of, b_of, IsBase, MayBeIndex, IsIndex};
 ghost use Rattle.x86_address.specs.Spells.{SpellsAddress, BaseFits, IsScale, IsPower, IndexFits, HasModRM};
 
 use crate::displacement::{Written, append_doubleword};
@@ -46,15 +47,24 @@ fn scale_fits(scale: u8) -> bool
     matches!(scale, 1 | 2 | 4 | 8)
 }
 
-// Whether bytes can name this index.
-fn index_fits(index: Option<Index>) -> bool
-    ensures fits { IsTrue result ↔ IndexFits index }
-    ensures within { IsTrue result → IsIndex (plain_index index) }
+// Whether the number can be that of an index: 4 only of a vector register.
+fn may_be_index(vector: bool, num: u8) -> bool
+    ensures { IsTrue result ↔ MayBeIndex vector num }
+{
+    if vector { true } else { num != 4 }
+}
+
+// Whether bytes can name this index, which has to be there where it is a vector register.
+fn index_fits(vector: bool, index: Option<Index>) -> bool
+    ensures fits { IsTrue result ↔ IndexFits vector index }
+    ensures within { IsTrue result → IsIndex vector (plain_index index) }
 {
     match index {
-        None => true,
+        None => !vector,
         Some(index) => {
-            index.reg.bank() == RegisterBank::Q && index.reg.num() != 4 && scale_fits(index.scale)
+            index.reg.bank() == RegisterBank::Q
+                && may_be_index(vector, index.reg.num())
+                && scale_fits(index.scale)
         }
     }
 }
@@ -171,6 +181,31 @@ fn address_bytes(base: Option<RegSpec>, index: Option<Index>, disp: i32) -> Arra
     }
 }
 
+// The shortest bytes that spell an address, whose index is a vector register or not.
+fn shortest_of_kind(vector: bool, address: &Address) -> Option<AddressBytes>
+    ensures bytes { IfSome result (λ found.
+        found.bytes.items ≡ place_bytes 0 (shortest (At (plain address.now)))) }
+    ensures x { IfSome result (λ found. found.x ≡ x_of (At (plain address.now))) }
+    ensures b { IfSome result (λ found. found.b ≡ b_of (At (plain address.now))) }
+    ensures spells { IfSome result (λ found. SpellsAddress found.bytes.items (memory_kind vector) 0 found.x found.b address.now) }
+    ensures least { IfSome result (λ found. (bytes : List ℕ) (reg : ℕ) (x b : Bool)
+        → SpellsAddress bytes (memory_kind vector) reg x b address.now → length found.bytes.items ≤ length bytes) }
+    ensures none { IsNone result ↔ ((bytes : List ℕ) (reg : ℕ) (x b : Bool)
+        → ¬ (SpellsAddress bytes (memory_kind vector) reg x b address.now)) }
+    ensures cases { IsSome result ↔ (BaseFits address.now.base address.now.index × IndexFits vector address.now.index) }
+    ensures most { IfSome result (λ found. length found.bytes.items ≤ 6) }
+    ensures modrm { IfSome result (λ found. HasModRM found.bytes.items (shortest (At (plain address.now)))) }
+{
+    if !base_fits(address.base, address.index) || !index_fits(vector, address.index) {
+        return None;
+    }
+    Some(AddressBytes {
+        x: index_is_upper(address.index),
+        b: base_is_upper(address.base),
+        bytes: address_bytes(address.base, address.index, address.disp),
+    })
+}
+
 /// The shortest bytes that spell an address in memory, with the bits X and B that go with them.
 ///
 /// SIB stands only where there is an index, or the base's number is 4 or 12, or there is no base; it says scale 1 where
@@ -181,7 +216,7 @@ fn address_bytes(base: Option<RegSpec>, index: Option<Index>, disp: i32) -> Arra
 /// `None` exactly where no address bytes spell the address. These are the cases:
 /// - The base is a register that is neither of bank `Q` nor the instruction pointer.
 /// - The base is the instruction pointer, and there is an index.
-/// - There is an index that isn't of bank `Q`. (A caller with a vector index hands in the same number in bank `Q`.)
+/// - There is an index that isn't of bank `Q`. (For a vector register there is `shortest_vector_address`.)
 /// - There is an index with the number 4.
 /// - There is an index with a scale other than 1, 2, 4 and 8.
 pub fn shortest_address(address: &Address) -> Option<AddressBytes>
@@ -191,25 +226,52 @@ pub fn shortest_address(address: &Address) -> Option<AddressBytes>
     ensures b { IfSome result (λ found. found.b ≡ b_of (At (plain address.now))) }
 
     // The bytes spell the address, and no bytes that spell it are fewer.
-    ensures spells { IfSome result (λ found. SpellsAddress found.bytes.items 0 found.x found.b address.now) }
+    ensures spells { IfSome result (λ found. SpellsAddress found.bytes.items InMemory 0 found.x found.b address.now) }
     ensures least { IfSome result (λ found. (bytes : List ℕ) (reg : ℕ) (x b : Bool)
-        → SpellsAddress bytes reg x b address.now → length found.bytes.items ≤ length bytes) }
+        → SpellsAddress bytes InMemory reg x b address.now → length found.bytes.items ≤ length bytes) }
 
     // None comes exactly where no bytes spell it, and where the base or the index doesn't fit.
     ensures none { IsNone result ↔ ((bytes : List ℕ) (reg : ℕ) (x b : Bool)
-        → ¬ (SpellsAddress bytes reg x b address.now)) }
-    ensures cases { IsSome result ↔ (BaseFits address.now.base address.now.index × IndexFits address.now.index) }
+        → ¬ (SpellsAddress bytes InMemory reg x b address.now)) }
+    ensures cases { IsSome result ↔ (BaseFits address.now.base address.now.index × IndexFits false address.now.index) }
 
     // There are 1 to 6 bytes, and a caller adds the field reg to the first of them.
     ensures most { IfSome result (λ found. length found.bytes.items ≤ 6) }
     ensures modrm { IfSome result (λ found. HasModRM found.bytes.items (shortest (At (plain address.now)))) }
 {
-    if !base_fits(address.base, address.index) || !index_fits(address.index) {
-        return None;
-    }
-    Some(AddressBytes {
-        x: index_is_upper(address.index),
-        b: base_is_upper(address.base),
-        bytes: address_bytes(address.base, address.index, address.disp),
-    })
+    shortest_of_kind(false, address)
+}
+
+/// The shortest bytes that spell an address with a vector register as its index, with the bits X and B that go with them.
+/// A caller hands in the register's number in bank `Q`.
+///
+/// There always is SIB, and the number 4 is an index like any other; all else is as `shortest_address` has it. (Intel
+/// SDM volume 2, sections 2.1.5, 2.3.8 and 2.3.12.)
+///
+/// `None` exactly where no address bytes spell the address. These are the cases:
+/// - The base is a register that isn't of bank `Q`, or the instruction pointer.
+/// - There is no index.
+/// - The index isn't of bank `Q`.
+/// - The index has a scale other than 1, 2, 4 and 8.
+pub fn shortest_vector_address(address: &Address) -> Option<AddressBytes>
+    ensures bytes { IfSome result (λ found.
+        found.bytes.items ≡ place_bytes 0 (shortest (At (plain address.now)))) }
+    ensures x { IfSome result (λ found. found.x ≡ x_of (At (plain address.now))) }
+    ensures b { IfSome result (λ found. found.b ≡ b_of (At (plain address.now))) }
+
+    // The bytes spell the address, and no bytes that spell it are fewer.
+    ensures spells { IfSome result (λ found. SpellsAddress found.bytes.items VectorIndexed 0 found.x found.b address.now) }
+    ensures least { IfSome result (λ found. (bytes : List ℕ) (reg : ℕ) (x b : Bool)
+        → SpellsAddress bytes VectorIndexed reg x b address.now → length found.bytes.items ≤ length bytes) }
+
+    // None comes exactly where no bytes spell it, and where the base or the index doesn't fit.
+    ensures none { IsNone result ↔ ((bytes : List ℕ) (reg : ℕ) (x b : Bool)
+        → ¬ (SpellsAddress bytes VectorIndexed reg x b address.now)) }
+    ensures cases { IsSome result ↔ (BaseFits address.now.base address.now.index × IndexFits true address.now.index) }
+
+    // There are 2 to 6 bytes, and a caller adds the field reg to the first of them.
+    ensures most { IfSome result (λ found. length found.bytes.items ≤ 6) }
+    ensures modrm { IfSome result (λ found. HasModRM found.bytes.items (shortest (At (plain address.now)))) }
+{
+    shortest_of_kind(true, address)
 }

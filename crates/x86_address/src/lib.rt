@@ -6,8 +6,8 @@ mod displacement;
 mod encode;
 pub mod laws;
 
-pub use decode::{read_address, read_imm, read_modrm};
-pub use encode::{AddressBytes, shortest_address};
+pub use decode::{read_address, read_imm, read_modrm, read_vector_address};
+pub use encode::{AddressBytes, shortest_address, shortest_vector_address};
 
 #[cfg(test)]
 mod tests;

@@ -1,15 +1,14 @@
 -- Lemmas on the walk of a form, and that no contract cites: what has passed where it answers, and that the row that it
 -- chooses is a row.
-use Rattle.std.specs.Prelude.{◌≡◌, refl, ◌⊎◌, ℕ, ◌/◌, ◌%◌, Bool, true, false, not, ◌&&◌, ◌||◌, ◌==◌, List, [], ◌∷◌, ◌++◌, Option, Some, None, Ok, Err, if◌then◌else◌}
+use Rattle.std.specs.Prelude.{◌≡◌, refl, ◌⊎◌, ℕ, ◌/◌, ◌%◌, Bool, true, false, not, ◌&&◌, ◌||◌, ◌==◌, List, [], ◌∷◌, ◌++◌, Some, None, Ok, Err, if◌then◌else◌}
 use Rattle.std.specs.List.{list_all, list_any}
 use Rattle.std.proofs.Common.{ap, ap₂, sym, ◌∙◌, inl, inr, subst, arith}
 use Rattle.std.proofs.lemmas.Bool.{eqb-true}
-use Rattle.x86_opcode.specs.declared.Opcode.{Opcode}
-use Rattle.x86_operand.specs.Kind.{Kind, WithoutModRM, InRegister, InMemory}
+use Rattle.x86_operand.specs.Kind.{Kind, WithoutModRM, InRegister, InMemory, memory_kind}
 use Rattle.x86_address.specs.Bytes.{IsBytes}
 use Rattle.x86_address.specs.Most.{TakesAtMost}
 use Rattle.x86_address.specs.Most.Laws.{most_none, most_refused, most_then, most_if, most_wider, most_byte, most_place}
-use Rattle.x86_address.specs.Place.{Place, NoPlace, Direct, Based, RipBased, Scaled, Baseless, IsPlace, kind_of, place_bytes}
+use Rattle.x86_address.specs.Place.{Place, NoPlace, Direct, Based, RipBased, IsPlace, kind_of, IsOfKind, place_bytes}
 use Rattle.x86_address.specs.Laws.{ReadingIsSpelling}
 use Rattle.x86_address.specs.Reading.{Reading, ◌>>=◌, take_byte, take_doubleword, take_displacement, take_baseless, take_scaled, take_sib, take_place}
 use Rattle.vex_rows.specs.declared.entry.Entry.{Entry}
@@ -17,15 +16,17 @@ use Rattle.vex_rows.specs.declared.form.Form.{Form}
 use Rattle.vex_rows.specs.declared.steps.Check.{Check}
 use Rattle.vex_rows.specs.declared.steps.Check.TheVariants.{V0, L0, Reg, Mem, Group, VifMem}
 use Rattle.vex_rows.specs.Rules.{allows}
+use Rattle.vex_rows.specs.FormRows.{gathers}
 use Rattle.vex_rows.specs.Steps.{FormSteps, steps}
 use Rattle.vex_rows.specs.Groups.{groups}
-use Rattle.vex_rows.specs.Row.{Row, Among, kinds_of, has_groups, is_group, is_register, group_allowed, permits_choice, exists}
-use Rattle.vex_rows.specs.Tests.{is_orderly, is_prefix_check, is_modrm_check, is_late_check, is_register_check, is_none}
+use Rattle.vex_rows.specs.Row.{Among, kinds_of, has_groups, is_group, is_register, is_memory_of, group_allowed, permits_choice, exists}
+use Rattle.vex_rows.specs.Tests.{is_prefix_check, is_modrm_check, is_late_check, is_register_check, is_memory_check, is_none, checks_address}
 use Rattle.vex_rows.specs.Row.Lists.{both-parts, parts-both, from-list_all, list_all-each, among-append}
 use Rattle.vex_rows.specs.Row.Laws.{checks_of}
-use Rattle.vex_rows.specs.Steps.Laws.{orderly}
+use Rattle.vex_rows.specs.Steps.Laws.{orderly, gathers_checked}
 use Rattle.vex_forms.specs.Fields.{Fields}
-use Rattle.vex_forms.specs.FormWalk.{passes, refusal, check_all, kind_of_mod, take_imm, Operands, place_by, walk_modrm, walk_alone, walk_form, row_of}
+use Rattle.vex_forms.specs.FormWalk.{passes, refusal, check_all, kind_of_modrm, kind_by, take_imm, Operands, place_by, walk_modrm, walk_alone, walk_form, row_of}
+use Rattle.vex_forms.specs.Layout.Laws.{is_register-memory_kind, plain-memory_kind, vector_kind}
 use Rattle.vex_forms.specs.Written.{imm_bytes, FitsReg, FitsImm}
 
 -- ---- what a walk has passed
@@ -46,12 +47,19 @@ check_all-passed entry f kind reg (c ∷ checks) bytes answer e = by (passes ent
   by true e next = next e
   by false e next = cc
 
--- the place that was read has this kind
+-- the place that was read is of this kind
 abbrev Has : Kind → Place × List ℕ → Type 0
-Has kind read = kind_of read.0 ≡ kind
+Has kind read = IsOfKind kind read.0
+
+-- a place in memory that isn't that of a vector register
+plain_place : (place : Place) → kind_of place ≡ InMemory → IsOfKind InMemory place
+plain_place place memory = record { plain = memory; sib = λ vector. cc }
+
+direct_place : (rm : ℕ) → IsOfKind InRegister (Direct rm)
+direct_place rm = record { plain = refl; sib = λ vector. cc }
 
 -- what is turned into a place has the kind of all such places
-turned : {A : Type 0} (kind : Kind) (f : A → Place) (reading : Reading A) (answer : Place × List ℕ) → ((value : A) → kind_of (f value) ≡ kind) → (reading >>= (λ read. Ok (f read.0, read.1))) ≡ Ok answer → Has kind answer
+turned : {A : Type 0} (kind : Kind) (f : A → Place) (reading : Reading A) (answer : Place × List ℕ) → ((value : A) → IsOfKind kind (f value)) → (reading >>= (λ read. Ok (f read.0, read.1))) ≡ Ok answer → Has kind answer
 turned kind f (Ok read) answer all e = subst (Has kind) (same_answer e) (all read.0)
 turned kind f (Err error) answer all e = cc
 
@@ -59,80 +67,117 @@ either_has : (kind : Kind) (test : Bool) (one other : Reading Place) (answer : P
 either_has kind true one other answer p q e = p e
 either_has kind false one other answer p q e = q e
 
-sib_has : (mode : ℕ) (bytes : List ℕ) (answer : Place × List ℕ) → take_sib mode bytes ≡ Ok answer → Has InMemory answer
-sib_has mode [] answer e = cc
-sib_has mode (sib ∷ bytes) answer e =
-    either_has InMemory (mode == 0 && sib % 8 == 5) (take_baseless sib bytes) (take_scaled mode sib bytes) answer (turned InMemory _ (take_doubleword bytes) answer (λ n. refl)) (turned InMemory _ (take_displacement mode bytes) answer (λ d. refl)) e
+sib_has : (vector : Bool) (mode : ℕ) (bytes : List ℕ) (answer : Place × List ℕ) → take_sib mode bytes ≡ Ok answer → Has (memory_kind vector) answer
+sib_has vector mode [] answer e = cc
+sib_has vector mode (sib ∷ bytes) answer e =
+    let kind = memory_kind vector in
+    let memory = sym (plain-memory_kind vector) in
+    either_has kind (mode == 0 && sib % 8 == 5) (take_baseless sib bytes) (take_scaled mode sib bytes) answer (turned kind _ (take_doubleword bytes) answer (λ n. record { plain = memory; sib = λ v. refl })) (turned kind _ (take_displacement mode bytes) answer (λ d. record { plain = memory; sib = λ v. refl })) e
 
--- the field mod says the kind of the place that is read
-place_has : (mode rm : ℕ) (bytes : List ℕ) (answer : Place × List ℕ) → take_place mode rm bytes ≡ Ok answer → Has (kind_of_mod mode) answer
-place_has mode rm bytes answer = by (mode == 3) where
-  by : (b : Bool) → (if b then Ok (Direct rm, bytes) else (if rm == 4 then take_sib mode bytes else if mode == 0 && rm == 5 then take_doubleword bytes >>= (λ n. Ok (RipBased n.0, n.1)) else take_displacement mode bytes >>= (λ d. Ok (Based rm d.0, d.1)))) ≡ Ok answer → Has (if b then InRegister else InMemory) answer
-  by true e = subst (Has InRegister) (same_answer e) refl
-  by false e =
-      either_has InMemory (rm == 4) _ _ answer (sib_has mode bytes answer) (either_has InMemory (mode == 0 && rm == 5) _ _ answer (turned InMemory RipBased (take_doubleword bytes) answer (λ n. refl)) (turned InMemory (Based rm) (take_displacement mode bytes) answer (λ d. refl))) e
+-- without SIB
+based_has : (mode rm : ℕ) (bytes : List ℕ) (answer : Place × List ℕ) → (if mode == 0 && rm == 5 then take_doubleword bytes >>= (λ n. Ok (RipBased n.0, n.1)) else take_displacement mode bytes >>= (λ d. Ok (Based rm d.0, d.1))) ≡ Ok answer → Has InMemory answer
+based_has mode rm bytes answer =
+    either_has InMemory (mode == 0 && rm == 5) _ _ answer (turned InMemory RipBased (take_doubleword bytes) answer (λ n. plain_place _ refl)) (turned InMemory (Based rm) (take_displacement mode bytes) answer (λ d. plain_place _ refl))
+
+-- the fields mod and rm say the kind of the place that is read
+place_has : (vector : Bool) (mode rm : ℕ) (bytes : List ℕ) (answer : Place × List ℕ) → take_place mode rm bytes ≡ Ok answer → Has (kind_of_modrm vector mode rm) answer
+place_has vector mode rm bytes answer = by vector (mode == 3) (rm == 4) where
+  by : (vector b four : Bool) → (if b then Ok (Direct rm, bytes) else (if four then take_sib mode bytes else if mode == 0 && rm == 5 then take_doubleword bytes >>= (λ n. Ok (RipBased n.0, n.1)) else take_displacement mode bytes >>= (λ d. Ok (Based rm d.0, d.1)))) ≡ Ok answer → Has (if b then InRegister else memory_kind (vector && four)) answer
+  by vector true four e = subst (Has InRegister) (same_answer e) (direct_place rm)
+  by vector false true e = sib_has (vector && true) mode bytes answer e
+  by true false false e = based_has mode rm bytes answer e
+  by false false false e = based_has mode rm bytes answer e
 
 -- a form that reads no address has checked that the operand is a register
-register_passed : (entry : Entry) (f : Fields) (mode reg : ℕ) (checks : List Check) → list_any is_register_check checks ≡ true → list_all (passes entry f (kind_of_mod mode) reg) checks ≡ true → mode ≡ 3
-register_passed entry f mode reg [] any all = cc
-register_passed entry f mode reg (Reg ∷ checks) any all = by (mode == 3) refl (both-parts _ _ all).0 where
-  by : (b : Bool) → (mode == 3) ≡ b → is_register (if b then InRegister else InMemory) ≡ true → mode ≡ 3
-  by true h r = eqb-true mode 3 h
-  by false h r = cc
-register_passed entry f mode reg (V0 ∷ checks) any all = register_passed entry f mode reg checks any (both-parts _ _ all).1
-register_passed entry f mode reg (L0 ∷ checks) any all = register_passed entry f mode reg checks any (both-parts _ _ all).1
-register_passed entry f mode reg (Mem ∷ checks) any all = register_passed entry f mode reg checks any (both-parts _ _ all).1
-register_passed entry f mode reg (Group ∷ checks) any all = register_passed entry f mode reg checks any (both-parts _ _ all).1
-register_passed entry f mode reg (VifMem ∷ checks) any all = register_passed entry f mode reg checks any (both-parts _ _ all).1
+register_checked : (entry : Entry) (f : Fields) (kind : Kind) (reg : ℕ) (checks : List Check) → list_any is_register_check checks ≡ true → list_all (passes entry f kind reg) checks ≡ true → is_register kind ≡ true
+register_checked entry f kind reg [] any all = cc
+register_checked entry f kind reg (Reg ∷ checks) any all = (both-parts _ _ all).0
+register_checked entry f kind reg (V0 ∷ checks) any all = register_checked entry f kind reg checks any (both-parts _ _ all).1
+register_checked entry f kind reg (L0 ∷ checks) any all = register_checked entry f kind reg checks any (both-parts _ _ all).1
+register_checked entry f kind reg (Mem ∷ checks) any all = register_checked entry f kind reg checks any (both-parts _ _ all).1
+register_checked entry f kind reg (Group ∷ checks) any all = register_checked entry f kind reg checks any (both-parts _ _ all).1
+register_checked entry f kind reg (VifMem ∷ checks) any all = register_checked entry f kind reg checks any (both-parts _ _ all).1
 
-place_by_has : (address : Bool) (mode rm : ℕ) (bytes : List ℕ) (answer : Place × List ℕ) → (address ≡ false → mode ≡ 3) → place_by address mode rm bytes ≡ Ok answer → Has (kind_of_mod mode) answer
-place_by_has true mode rm bytes answer direct e = place_has mode rm bytes answer e
-place_by_has false mode rm bytes answer direct e = rw (direct refl) (subst (Has InRegister) (same_answer e) refl)
+register_mod : (vector : Bool) (mode rm : ℕ) → is_register (kind_of_modrm vector mode rm) ≡ true → mode ≡ 3
+register_mod vector mode rm = by (mode == 3) refl where
+  by : (b : Bool) → (mode == 3) ≡ b → is_register (if b then InRegister else memory_kind (vector && rm == 4)) ≡ true → mode ≡ 3
+  by true h r = eqb-true mode 3 h
+  by false h r = let never : false ≡ true = sym (is_register-memory_kind (vector && rm == 4)) ∙ r in cc
+
+register_passed : (entry : Entry) (f : Fields) (vector : Bool) (mode rm reg : ℕ) (checks : List Check) → list_any is_register_check checks ≡ true → list_all (passes entry f (kind_of_modrm vector mode rm) reg) checks ≡ true → mode ≡ 3
+register_passed entry f vector mode rm reg checks any all = register_mod vector mode rm (register_checked entry f (kind_of_modrm vector mode rm) reg checks any all)
+
+-- a form that gathers has checked that there is an address
+memory_checked : (entry : Entry) (f : Fields) (kind : Kind) (reg : ℕ) (checks : List Check) → list_any is_memory_check checks ≡ true → list_all (passes entry f kind reg) checks ≡ true → is_memory_of (gathers entry.form) kind ≡ true
+memory_checked entry f kind reg [] any all = cc
+memory_checked entry f kind reg (Mem ∷ checks) any all = (both-parts _ _ all).0
+memory_checked entry f kind reg (V0 ∷ checks) any all = memory_checked entry f kind reg checks any (both-parts _ _ all).1
+memory_checked entry f kind reg (L0 ∷ checks) any all = memory_checked entry f kind reg checks any (both-parts _ _ all).1
+memory_checked entry f kind reg (Reg ∷ checks) any all = memory_checked entry f kind reg checks any (both-parts _ _ all).1
+memory_checked entry f kind reg (Group ∷ checks) any all = memory_checked entry f kind reg checks any (both-parts _ _ all).1
+memory_checked entry f kind reg (VifMem ∷ checks) any all = memory_checked entry f kind reg checks any (both-parts _ _ all).1
+
+-- so that its kind is one of the form's
+modrm_kind : (vector : Bool) (mode rm : ℕ) → (vector ≡ true → is_memory_of vector (kind_of_modrm vector mode rm) ≡ true) → (kind_of_modrm vector mode rm ≡ InRegister) ⊎ (kind_of_modrm vector mode rm ≡ memory_kind vector)
+modrm_kind true mode rm h = inr (vector_kind (kind_of_modrm true mode rm) (h refl))
+modrm_kind false mode rm h = by (mode == 3) where
+  by : (b : Bool) → ((if b then InRegister else InMemory) ≡ InRegister) ⊎ ((if b then InRegister else InMemory) ≡ InMemory)
+  by true = inl refl
+  by false = inr refl
+
+-- the check of an address that the form has where it gathers
+has_memory_check : (vector : Bool) (form : FormSteps) → checks_address vector form ≡ true → vector ≡ true → list_any is_memory_check form.after_modrm ≡ true
+has_memory_check true form h v = (both-parts (form.modrm && form.address) (list_any is_memory_check form.after_modrm) h).1
+has_memory_check false form h v = cc
+
+place_by_has : (vector address : Bool) (mode rm : ℕ) (bytes : List ℕ) (answer : Place × List ℕ) → (address ≡ false → mode ≡ 3) → place_by address mode rm bytes ≡ Ok answer → Has (kind_of_modrm vector mode rm) answer
+place_by_has vector true mode rm bytes answer direct e = place_has vector mode rm bytes answer e
+place_by_has vector false mode rm bytes answer direct e = rw (direct refl) (subst (Has InRegister) (same_answer e) (direct_place rm))
 
 -- the checks that have passed, and the kind of the operand E
 pub record Passed (entry : Entry) (f : Fields) (operands : Operands) : Type 0 where
   pub before_modrm : list_all (passes entry f WithoutModRM 0) (steps entry.form).before_modrm ≡ true
-  pub after_modrm : list_all (passes entry f (kind_of operands.place) operands.reg) (steps entry.form).after_modrm ≡ true
-  pub after_address : list_all (passes entry f (kind_of operands.place) operands.reg) (steps entry.form).after_address ≡ true
-  pub kind : Among (kind_of operands.place) (kinds_of entry.form)
+  pub after_modrm : list_all (passes entry f operands.kind operands.reg) (steps entry.form).after_modrm ≡ true
+  pub after_address : list_all (passes entry f operands.kind operands.reg) (steps entry.form).after_address ≡ true
+  pub kind : Among operands.kind (kinds_of entry.form)
+  pub place : IsOfKind operands.kind operands.place
 
 -- those from ModRM on
 record PassedModRM (entry : Entry) (f : Fields) (form : FormSteps) (operands : Operands) : Type 0 where
-  after_modrm : list_all (passes entry f (kind_of operands.place) operands.reg) form.after_modrm ≡ true
-  after_address : list_all (passes entry f (kind_of operands.place) operands.reg) form.after_address ≡ true
-  kind : (kind_of operands.place ≡ InRegister) ⊎ (kind_of operands.place ≡ InMemory)
+  after_modrm : list_all (passes entry f operands.kind operands.reg) form.after_modrm ≡ true
+  after_address : list_all (passes entry f operands.kind operands.reg) form.after_address ≡ true
+  kind : (operands.kind ≡ InRegister) ⊎ (operands.kind ≡ memory_kind (gathers entry.form))
+  place : IsOfKind operands.kind operands.place
 
-mod_kind : (mode : ℕ) (kind : Kind) → kind ≡ kind_of_mod mode → (kind ≡ InRegister) ⊎ (kind ≡ InMemory)
-mod_kind mode kind = by (mode == 3) where
-  by : (b : Bool) → kind ≡ (if b then InRegister else InMemory) → (kind ≡ InRegister) ⊎ (kind ≡ InMemory)
-  by true e = inl e
-  by false e = inr e
-
-walk_modrm-passed : (entry : Entry) (f : Fields) (form : FormSteps) (bytes : List ℕ) (answer : Operands × List ℕ) → (form.address || list_any is_register_check form.after_modrm) ≡ true → walk_modrm entry f form bytes ≡ Ok answer → PassedModRM entry f form answer.0
-walk_modrm-passed entry f form bytes answer direct e =
+walk_modrm-passed : (entry : Entry) (f : Fields) (form : FormSteps) (bytes : List ℕ) (answer : Operands × List ℕ) → (form.address || list_any is_register_check form.after_modrm) ≡ true → checks_address (gathers entry.form) form ≡ true → walk_modrm entry f form bytes ≡ Ok answer → PassedModRM entry f form answer.0
+walk_modrm-passed entry f form bytes answer direct address e =
     let modrm = then_ok (take_byte bytes) _ answer e in
     let mode : ℕ = modrm.0.0 / 64 in
     let rm : ℕ = modrm.0.0 % 8 in
     let reg : ℕ = (modrm.0.0 / 8) % 8 in
-    let second = then_ok (check_all entry f (kind_of_mod mode) reg form.after_modrm modrm.0.1) _ answer modrm.2 in
+    let kind : Kind = kind_by entry modrm.0.0 in
+    let second = then_ok (check_all entry f kind reg form.after_modrm modrm.0.1) _ answer modrm.2 in
     let place = then_ok (place_by form.address mode rm second.0.1) _ answer second.2 in
-    let third = then_ok (check_all entry f (kind_of_mod mode) reg form.after_address place.0.1) _ answer place.2 in
+    let third = then_ok (check_all entry f kind reg form.after_address place.0.1) _ answer place.2 in
     let imm = then_ok (take_imm form.imm third.0.1) _ answer third.2 in
-    let after_modrm = check_all-passed entry f (kind_of_mod mode) reg form.after_modrm modrm.0.1 second.0 second.1 in
-    let after_address = check_all-passed entry f (kind_of_mod mode) reg form.after_address place.0.1 third.0 third.1 in
-    let registers : form.address ≡ false → mode ≡ 3 = λ none. register_passed entry f mode reg form.after_modrm (subst (λ a. (a || list_any is_register_check form.after_modrm) ≡ true) none direct) after_modrm in
-    let has : kind_of place.0.0 ≡ kind_of_mod mode = place_by_has form.address mode rm second.0.1 place.0 registers place.1 in
-    let found : PassedModRM entry f form (record { reg = reg; place = place.0.0; imm = imm.0.0 }) = record {
-      after_modrm = subst (λ kind. list_all (passes entry f kind reg) form.after_modrm ≡ true) (sym has) after_modrm;
-      after_address = subst (λ kind. list_all (passes entry f kind reg) form.after_address ≡ true) (sym has) after_address;
-      kind = mod_kind mode (kind_of place.0.0) has;
+    let after_modrm = check_all-passed entry f kind reg form.after_modrm modrm.0.1 second.0 second.1 in
+    let after_address = check_all-passed entry f kind reg form.after_address place.0.1 third.0 third.1 in
+    let registers : form.address ≡ false → mode ≡ 3 = λ none. register_passed entry f (gathers entry.form) mode rm reg form.after_modrm (subst (λ a. (a || list_any is_register_check form.after_modrm) ≡ true) none direct) after_modrm in
+    let found : PassedModRM entry f form (record { kind = kind; reg = reg; place = place.0.0; imm = imm.0.0 }) = record {
+      after_modrm = after_modrm;
+      after_address = after_address;
+      kind = modrm_kind (gathers entry.form) mode rm (λ vector. memory_checked entry f kind reg form.after_modrm (has_memory_check (gathers entry.form) form address vector) after_modrm);
+      place = place_by_has (gathers entry.form) form.address mode rm second.0.1 place.0 registers place.1;
     } in
     subst (λ read. PassedModRM entry f form read.0) (same_answer imm.2) found
 
-walk_alone-place : (form : FormSteps) (bytes : List ℕ) (answer : Operands × List ℕ) → walk_alone form bytes ≡ Ok answer → kind_of answer.0.place ≡ WithoutModRM
+no_place : IsOfKind WithoutModRM NoPlace
+no_place = record { plain = refl; sib = λ vector. cc }
+
+walk_alone-place : (form : FormSteps) (bytes : List ℕ) (answer : Operands × List ℕ) → walk_alone form bytes ≡ Ok answer → (answer.0.kind ≡ WithoutModRM) × IsOfKind answer.0.kind answer.0.place
 walk_alone-place form bytes answer e =
     let imm = then_ok (take_imm form.imm bytes) _ answer e in
-    subst (λ read. kind_of read.0.place ≡ WithoutModRM) (same_answer imm.2) refl
+    subst (λ read. (read.0.kind ≡ WithoutModRM) × IsOfKind read.0.kind read.0.place) (same_answer imm.2) (refl, no_place)
 
 -- ---- the order of the steps
 
@@ -168,12 +213,13 @@ walk_form-passed entry f bytes answer e =
     by : (b : Bool) → (steps entry.form).modrm ≡ b → list_all (passes entry f WithoutModRM 0) (steps entry.form).before_modrm ≡ true → (rest : List ℕ) → (if b then walk_modrm entry f (steps entry.form) rest else walk_alone (steps entry.form) rest) ≡ Ok answer → Passed entry f answer.0
     by true h before left e =
         let rest = subst (λ m. (if m then (steps entry.form).address || list_any is_register_check (steps entry.form).after_modrm else is_none (steps entry.form).after_modrm && is_none (steps entry.form).after_address && not (steps entry.form).address) ≡ true) h (ordered entry).rest in
-        let passed = walk_modrm-passed entry f (steps entry.form) left answer rest e in
+        let passed = walk_modrm-passed entry f (steps entry.form) left answer rest (gathers_checked entry.form) e in
         record {
           before_modrm = before;
           after_modrm = passed.after_modrm;
           after_address = passed.after_address;
-          kind = subst (λ m. Among (kind_of answer.0.place) (if m then InRegister ∷ InMemory ∷ [] else WithoutModRM ∷ [])) (sym h) (elim passed.kind [ inl k ↦ inl k | inr k ↦ inr (inl k) ]);
+          kind = subst (λ m. Among answer.0.kind (if m then InRegister ∷ memory_kind (gathers entry.form) ∷ [] else WithoutModRM ∷ [])) (sym h) (elim passed.kind [ inl k ↦ inl k | inr k ↦ inr (inl k) ]);
+          place = passed.place;
         }
     by false h before left e =
         let rest = subst (λ m. (if m then (steps entry.form).address || list_any is_register_check (steps entry.form).after_modrm else is_none (steps entry.form).after_modrm && is_none (steps entry.form).after_address && not (steps entry.form).address) ≡ true) h (ordered entry).rest in
@@ -182,7 +228,8 @@ walk_form-passed entry f bytes answer e =
           before_modrm = before;
           after_modrm = none_pass entry f _ _ _ none.0;
           after_address = none_pass entry f _ _ _ none.1;
-          kind = subst (λ m. Among (kind_of answer.0.place) (if m then InRegister ∷ InMemory ∷ [] else WithoutModRM ∷ [])) (sym h) (inl (walk_alone-place (steps entry.form) left answer e));
+          kind = subst (λ m. Among answer.0.kind (if m then InRegister ∷ memory_kind (gathers entry.form) ∷ [] else WithoutModRM ∷ [])) (sym h) (inl (walk_alone-place (steps entry.form) left answer e).0);
+          place = (walk_alone-place (steps entry.form) left answer e).1;
         }
 
 -- ---- the row that is chosen
@@ -203,16 +250,16 @@ module _ (entry : Entry) (f : Fields) (operands : Operands) (passed : Passed ent
   permits_after_modrm : (c : Check) → Among c (steps entry.form).after_modrm → permits_choice (row_of entry f operands) c ≡ true
   permits_after_modrm V0 m = refl
   permits_after_modrm L0 m = cc (from-list_all is_modrm_check L0 _ (ordered entry).after_modrm m)
-  permits_after_modrm Reg m = from-list_all (passes entry f (kind_of operands.place) operands.reg) Reg _ passed.after_modrm m
-  permits_after_modrm Mem m = from-list_all (passes entry f (kind_of operands.place) operands.reg) Mem _ passed.after_modrm m
+  permits_after_modrm Reg m = from-list_all (passes entry f operands.kind operands.reg) Reg _ passed.after_modrm m
+  permits_after_modrm Mem m = from-list_all (passes entry f operands.kind operands.reg) Mem _ passed.after_modrm m
   permits_after_modrm Group m =
-      allowed_group (has_groups entry.form) entry.form f.l operands.reg (from-list_all (passes entry f (kind_of operands.place) operands.reg) Group _ passed.after_modrm m)
+      allowed_group (has_groups entry.form) entry.form f.l operands.reg (from-list_all (passes entry f operands.kind operands.reg) Group _ passed.after_modrm m)
   permits_after_modrm VifMem m = refl
 
   permits_after_address : (c : Check) → Among c (steps entry.form).after_address → permits_choice (row_of entry f operands) c ≡ true
   permits_after_address V0 m = refl
   permits_after_address L0 m = cc (from-list_all is_late_check L0 _ (ordered entry).after_address m)
-  permits_after_address Reg m = from-list_all (passes entry f (kind_of operands.place) operands.reg) Reg _ passed.after_address m
+  permits_after_address Reg m = from-list_all (passes entry f operands.kind operands.reg) Reg _ passed.after_address m
   permits_after_address Mem m = cc (from-list_all is_late_check Mem _ (ordered entry).after_address m)
   permits_after_address Group m = cc (from-list_all is_late_check Group _ (ordered entry).after_address m)
   permits_after_address VifMem m = refl
@@ -247,9 +294,9 @@ most_place_by address mode rm = most_if 5 address _ _ (most_place mode rm) (most
 most_modrm : (entry : Entry) (f : Fields) (form : FormSteps) → TakesAtMost 7 (walk_modrm entry f form)
 most_modrm entry f form =
     most_then 1 6 take_byte _ most_byte (λ modrm.
-    most_then 0 6 (check_all entry f (kind_of_mod (modrm / 64)) ((modrm / 8) % 8) form.after_modrm) _ (most_checks entry f _ _ form.after_modrm) (λ second.
+    most_then 0 6 (check_all entry f (kind_by entry modrm) ((modrm / 8) % 8) form.after_modrm) _ (most_checks entry f _ _ form.after_modrm) (λ second.
     most_then 5 1 (place_by form.address (modrm / 64) (modrm % 8)) _ (most_place_by form.address (modrm / 64) (modrm % 8)) (λ place.
-    most_then 0 1 (check_all entry f (kind_of_mod (modrm / 64)) ((modrm / 8) % 8) form.after_address) _ (most_checks entry f _ _ form.after_address) (λ third.
+    most_then 0 1 (check_all entry f (kind_by entry modrm) ((modrm / 8) % 8) form.after_address) _ (most_checks entry f _ _ form.after_address) (λ third.
     most_then 1 0 (take_imm form.imm) _ (most_imm form.imm) (λ imm. most_none _)))))
 
 most_alone : (form : FormSteps) → TakesAtMost 7 (walk_alone form)
@@ -306,21 +353,22 @@ walk_modrm-written place_read entry f form bytes answer is has direct e =
     let mode : ℕ = modrm.0.0 / 64 in
     let rm : ℕ = modrm.0.0 % 8 in
     let reg : ℕ = (modrm.0.0 / 8) % 8 in
-    let second = then_ok (check_all entry f (kind_of_mod mode) reg form.after_modrm modrm.0.1) _ answer modrm.2 in
+    let kind : Kind = kind_by entry modrm.0.0 in
+    let second = then_ok (check_all entry f kind reg form.after_modrm modrm.0.1) _ answer modrm.2 in
     let place = then_ok (place_by form.address mode rm second.0.1) _ answer second.2 in
-    let third = then_ok (check_all entry f (kind_of_mod mode) reg form.after_address place.0.1) _ answer place.2 in
+    let third = then_ok (check_all entry f kind reg form.after_address place.0.1) _ answer place.2 in
     let imm = then_ok (take_imm form.imm third.0.1) _ answer third.2 in
-    let after_modrm = check_all-passed entry f (kind_of_mod mode) reg form.after_modrm modrm.0.1 second.0 second.1 in
-    let registers : form.address ≡ false → mode ≡ 3 = λ none. register_passed entry f mode reg form.after_modrm (subst (λ a. (a || list_any is_register_check form.after_modrm) ≡ true) none direct) after_modrm in
+    let after_modrm = check_all-passed entry f kind reg form.after_modrm modrm.0.1 second.0 second.1 in
+    let registers : form.address ≡ false → mode ≡ 3 = λ none. register_passed entry f (gathers entry.form) mode rm reg form.after_modrm (subst (λ a. (a || list_any is_register_check form.after_modrm) ≡ true) none direct) after_modrm in
     let first = byte_stood bytes modrm.0 modrm.1 in
     let are : IsBytes (modrm.0.0 ∷ modrm.0.1) = subst IsBytes first is in
-    let none_second = checks_take_none entry f (kind_of_mod mode) reg form.after_modrm modrm.0.1 second.0 second.1 in
-    let none_third = checks_take_none entry f (kind_of_mod mode) reg form.after_address place.0.1 third.0 third.1 in
+    let none_second = checks_take_none entry f kind reg form.after_modrm modrm.0.1 second.0 second.1 in
+    let none_third = checks_take_none entry f kind reg form.after_address place.0.1 third.0 third.1 in
     let read : take_place mode rm modrm.0.1 ≡ Ok place.0 = ap (take_place mode rm) none_second ∙ by_take_place form.address mode rm second.0.1 place.0 registers place.1 in
     let stood = (place_read modrm.0.0 modrm.0.1 place.0.0 place.0.1 are.0 are.1).0 read in
     let left : IsBytes third.0.1 = subst IsBytes none_third (bytes_after (place_bytes reg place.0.0) place.0.1 (subst IsBytes stood.2 are)) in
     let last = imm_written form.imm third.0.1 imm.0 left imm.1 in
-    let found : Writes form (record { reg = reg; place = place.0.0; imm = imm.0.0 }) bytes imm.0.1 = record {
+    let found : Writes form (record { kind = kind; reg = reg; place = place.0.0; imm = imm.0.0 }) bytes imm.0.1 = record {
       reg = subst (λ m. FitsReg m reg) (sym has) (omega arith);
       place = stood.0;
       imm = last.fits;
@@ -332,7 +380,7 @@ walk_alone-written : (form : FormSteps) (bytes : List ℕ) (answer : Operands ×
 walk_alone-written form bytes answer is has e =
     let imm = then_ok (take_imm form.imm bytes) _ answer e in
     let last = imm_written form.imm bytes imm.0 is imm.1 in
-    let found : Writes form (record { reg = 0; place = NoPlace; imm = imm.0.0 }) bytes imm.0.1 = record {
+    let found : Writes form (record { kind = WithoutModRM; reg = 0; place = NoPlace; imm = imm.0.0 }) bytes imm.0.1 = record {
       reg = subst (λ m. FitsReg m 0) (sym has) refl;
       place = tt;
       imm = last.fits;

@@ -1,6 +1,6 @@
 -- The slots of every row fit its steps.
 use Rattle.std.specs.Prelude.{◌≡◌, refl, ◌≤◌, nat_le, length, Bool, true, false, not, ◌&&◌, ◌||◌, if◌then◌else◌}
-use Rattle.x86_operand.specs.Kind.{Kind, WithoutModRM, InRegister, InMemory}
+use Rattle.x86_operand.specs.Kind.{Kind, WithoutModRM, InRegister, InMemory, VectorIndexed}
 use Rattle.vex_rows.specs.declared.form.Form.{Form}
 use Rattle.vex_rows.specs.declared.form.Form.TheVariants.{Nothing}
 use Rattle.vex_rows.specs.FormRows.{form_row}
@@ -14,10 +14,11 @@ use Rattle.vex_forms.specs.Slots.{slots, slots_of, names_g, names_v, demands_v, 
 use Rattle.vex_forms.specs.Tests.{is_sound, is_distinct, is_free, immediates, has_few}
 
 -- by the kind of a row, on which the slots of some forms depend
-by_kind : (test : Kind → Bool) → test WithoutModRM ≡ true → test InRegister ≡ true → test InMemory ≡ true → (kind : Kind) → test kind ≡ true
-by_kind test a b c WithoutModRM = a
-by_kind test a b c InRegister = b
-by_kind test a b c InMemory = c
+by_kind : (test : Kind → Bool) → test WithoutModRM ≡ true → test InRegister ≡ true → test InMemory ≡ true → test VectorIndexed ≡ true → (kind : Kind) → test kind ≡ true
+by_kind test a b c d WithoutModRM = a
+by_kind test a b c d InRegister = b
+by_kind test a b c d InMemory = c
+by_kind test a b c d VectorIndexed = d
 
 sound_without : (form : Form) (row : Row) → is_sound form (row_at row.entry row.w row.l WithoutModRM row.group) ≡ true
 unfolding steps form_row
@@ -34,8 +35,13 @@ unfolding steps form_row
 sound_memory Nothing row = refl
 sound_memory _ row = refl
 
+sound_vector : (form : Form) (row : Row) → is_sound form (row_at row.entry row.w row.l VectorIndexed row.group) ≡ true
+unfolding steps form_row
+sound_vector Nothing row = refl
+sound_vector _ row = refl
+
 pub sound : (form : Form) (row : Row) → is_sound form row ≡ true
-sound form row = by_kind (λ kind. is_sound form (row_at row.entry row.w row.l kind row.group)) (sound_without form row) (sound_register form row) (sound_memory form row) row.kind
+sound form row = by_kind (λ kind. is_sound form (row_at row.entry row.w row.l kind row.group)) (sound_without form row) (sound_register form row) (sound_memory form row) (sound_vector form row) row.kind
 
 -- no form names a field twice
 distinct_without : (form : Form) (row : Row) → is_distinct (slots_of form (row_at row.entry row.w row.l WithoutModRM row.group)) ≡ true
@@ -53,8 +59,13 @@ unfolding form_row
 distinct_memory Nothing row = refl
 distinct_memory _ row = refl
 
+distinct_vector : (form : Form) (row : Row) → is_distinct (slots_of form (row_at row.entry row.w row.l VectorIndexed row.group)) ≡ true
+unfolding form_row
+distinct_vector Nothing row = refl
+distinct_vector _ row = refl
+
 pub distinct : (form : Form) (row : Row) → is_distinct (slots_of form row) ≡ true
-distinct form row = by_kind (λ kind. is_distinct (slots_of form (row_at row.entry row.w row.l kind row.group))) (distinct_without form row) (distinct_register form row) (distinct_memory form row) row.kind
+distinct form row = by_kind (λ kind. is_distinct (slots_of form (row_at row.entry row.w row.l kind row.group))) (distinct_without form row) (distinct_register form row) (distinct_memory form row) (distinct_vector form row) row.kind
 
 -- no form names a field that isn't free
 free_without : (form : Form) (row : Row) → is_free form (row_at row.entry row.w row.l WithoutModRM row.group) ≡ true
@@ -72,8 +83,13 @@ unfolding steps has_groups form_row
 free_memory Nothing row = refl
 free_memory _ row = refl
 
+free_vector : (form : Form) (row : Row) → is_free form (row_at row.entry row.w row.l VectorIndexed row.group) ≡ true
+unfolding steps has_groups form_row
+free_vector Nothing row = refl
+free_vector _ row = refl
+
 pub free : (form : Form) (row : Row) → is_free form row ≡ true
-free form row = by_kind (λ kind. is_free form (row_at row.entry row.w row.l kind row.group)) (free_without form row) (free_register form row) (free_memory form row) row.kind
+free form row = by_kind (λ kind. is_free form (row_at row.entry row.w row.l kind row.group)) (free_without form row) (free_register form row) (free_memory form row) (free_vector form row) row.kind
 
 -- no form has more than four slots
 few_without : (form : Form) (row : Row) → has_few form (row_at row.entry row.w row.l WithoutModRM row.group) ≡ true
@@ -91,8 +107,13 @@ unfolding form_row
 few_memory Nothing row = refl
 few_memory _ row = refl
 
+few_vector : (form : Form) (row : Row) → has_few form (row_at row.entry row.w row.l VectorIndexed row.group) ≡ true
+unfolding form_row
+few_vector Nothing row = refl
+few_vector _ row = refl
+
 pub few : (form : Form) (row : Row) → has_few form row ≡ true
-few form row = by_kind (λ kind. has_few form (row_at row.entry row.w row.l kind row.group)) (few_without form row) (few_register form row) (few_memory form row) row.kind
+few form row = by_kind (λ kind. has_few form (row_at row.entry row.w row.l kind row.group)) (few_without form row) (few_register form row) (few_memory form row) (few_vector form row) row.kind
 
 -- every row has at most four slots
 pub few_slots : (row : Row) → length (slots row) ≤ 4

@@ -1,6 +1,5 @@
-use Rattle.std.proofs.Common.{◌≡◌, ◌≢◌, arith, refl}
-use Rattle.x86_address.specs.Follows.Laws.{follows_ok, follows_err, follows_decided, follows_map, follows_then}
-use Rattle.vex_decode.proofs.Recording.{noting_silent, noting_then, noting_seen, noting_fails, noting_noted, noting_value, noting_refused}
+use Rattle.std.proofs.Common.{◌≡◌, ◌≢◌, arith}
+use Rattle.vex_decode.proofs.Recording.{noting_silent, noting_seen, noting_fails, noting_value, noting_refused}
 use Rattle.x86_operand.specs.declared.error.DecodeError.TheVariants.{Outside}
 use Rattle.vex_decode.specs.Fields.{C4, C5}
 use Rattle.vex_decode.specs.Walk.{form_of}

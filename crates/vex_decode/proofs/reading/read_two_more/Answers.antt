@@ -1,6 +1,5 @@
-use Rattle.std.proofs.Common.{refl, ap, sym, ◌∙◌}
-use Rattle.x86_address.specs.Follows.Laws.{follows_ok, follows_err, follows_decided, follows_map, follows_then}
-use Rattle.vex_decode.proofs.Recording.{noting_silent, noting_then, noting_seen, noting_fails, noting_noted, noting_map, noting_value}
+use Rattle.x86_address.specs.Follows.Laws.{follows_ok, follows_err}
+use Rattle.vex_decode.proofs.Recording.{noting_silent, noting_seen, noting_fails, noting_noted}
 use Rattle.vex_decode.proofs.reading.read_two_more.Goals as goal
 
 pub returns-in_err-second-clause-follows : goal.returns-in_err-second-clause-follows

@@ -10,7 +10,7 @@ returns-then-not-has_address g c =
       | then-not-has_address-via-then-not-has_address w ↦ inl w.if-not-has_address.true
       | then-not-has_address-via-else-not-has_address+then-modrm-eq3 w ↦ inr w.if-modrm-eq3.true
     ] in
-    follows_as _ (direct_step c.args.has_address _ _ direct) (λ place e is. is) (follows_ok (in_register _ _ _ _ (omega arith) (ap (λ n. c.args.modrm % 8 + 8 * n) c.from.ensures)))
+    follows_as _ (direct_step c.args.has_address _ _ direct) (λ place e is. is) (follows_ok (in_register _ _ _ _ _ (omega arith) (ap (λ n. c.args.modrm % 8 + 8 * n) c.from.ensures)))
 
 pub returns : goal.returns
-returns g c = rw c.if-not-has_address.false (follows_answered c.in_ok-address.ensures.follows (in_memory _ _ _ _ c.in_ok-address.ensures.follows.answers.1))
+returns g c = rw c.if-not-has_address.false (follows_answered c.in_ok-address.ensures (in_memory _ _ _ _ _ c.in_ok-address.ensures.answers.1))

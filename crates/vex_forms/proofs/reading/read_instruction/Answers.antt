@@ -1,5 +1,4 @@
 use Rattle.std.proofs.Common.{IsSome}
-use Rattle.vex_forms.specs.Fields.{fields_of}
 use Rattle.x86_address.specs.Follows.Laws.{follows_answered}
 use Rattle.vex_forms.proofs.Instructing.{none_there, layout_is_there, is_instruction}
 use Rattle.vex_forms.proofs.reading.read_instruction.Goals as goal
