@@ -10,7 +10,7 @@ use Rattle.x86_permit.specs.Permission.{permits}
 use Rattle.x86_permit.specs.LeastSettings.{least}
 use Rattle.x86_permit.specs.LeastSettings.Laws.{permits-least}
 use Rattle.vex_rows.specs.Groups.{groups}
-use Rattle.vex_rows.specs.FormRows.{form_row}
+use Rattle.vex_rows.specs.FormRows.{form_row, gathers}
 use Rattle.vex_rows.specs.Steps.{steps}
 use Rattle.vex_rows.specs.Table.{table}
 use Rattle.vex_rows.specs.Row.{Row, Among, IsRow, rows, choices, exists, has_groups, mark_of, opcode_of}
@@ -23,7 +23,7 @@ strays rows = filter (λ o. not (vex_part o)) (map opcode_of rows)
 
 -- there is none
 no_strays : strays rows ≡ []
-unfolding rows choices exists has_groups steps form_row groups table opcode_of
+unfolding rows choices exists has_groups steps form_row gathers groups table opcode_of
 no_strays = refl
 
 -- every row has a VEX opcode

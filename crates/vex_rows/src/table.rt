@@ -26,7 +26,7 @@ macro_rules! entry {
 
 /// All entries.
 #[rattlefmt::skip]
-pub static TABLE: [Entry; 426] = [
+pub static TABLE: [Entry; 434] = [
     // Map 0F, no implied prefix.
     entry!(Map0F Plain 0x10 Any Any G_E_xyLmm VMOVUPS),
     entry!(Map0F Plain 0x11 Any Any E_G_xyLmm VMOVUPS),
@@ -347,6 +347,14 @@ pub static TABLE: [Entry; 426] = [
     entry!(Map0F38 Prefix66 0x8E Zero One M_V_G_ymm VPMASKMOVD),
     entry!(Map0F38 Prefix66 0x8E One Zero M_V_G_xmm VPMASKMOVQ),
     entry!(Map0F38 Prefix66 0x8E One One M_V_G_ymm VPMASKMOVQ),
+    entry!(Map0F38 Prefix66 0x90 Zero Any G_ExyL_V_xyLmm VPGATHERDD),
+    entry!(Map0F38 Prefix66 0x90 One Any G_ExyL_V_xyLmm VPGATHERDQ),
+    entry!(Map0F38 Prefix66 0x91 Zero Any G_ExyL_V_xyLmm VPGATHERQD),
+    entry!(Map0F38 Prefix66 0x91 One Any G_ExyL_V_xyLmm VPGATHERQQ),
+    entry!(Map0F38 Prefix66 0x92 Zero Any G_ExyL_V_xyLmm VGATHERDPS),
+    entry!(Map0F38 Prefix66 0x92 One Any G_ExyL_V_xyLmm VGATHERDPD),
+    entry!(Map0F38 Prefix66 0x93 Zero Any G_ExyL_V_xyLmm VGATHERQPS),
+    entry!(Map0F38 Prefix66 0x93 One Any G_ExyL_V_xyLmm VGATHERQPD),
     entry!(Map0F38 Prefix66 0x96 Zero Any G_V_E_xyLmm VFMADDSUB132PS),
     entry!(Map0F38 Prefix66 0x96 One Any G_V_E_xyLmm VFMADDSUB132PD),
     entry!(Map0F38 Prefix66 0x97 Zero Any G_V_E_xyLmm VFMSUBADD132PS),

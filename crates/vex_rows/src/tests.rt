@@ -92,7 +92,7 @@ fn keys_have_their_entries(rt: HostRuntime) -> Result<(), Fail> {
             assert_eq!(rt; found, wanted, "{key:?}");
         }
     }
-    assert_eq!(rt; entry_count(), 426);
+    assert_eq!(rt; entry_count(), 434);
     Ok(())
 }
 
