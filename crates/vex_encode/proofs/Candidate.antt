@@ -5,11 +5,11 @@ use Rattle.std.specs.List.{list_any}
 use Rattle.std.proofs.Common.{arith, ap, ap₂, sym, ◌∙◌, inl, inr, subst}
 use Rattle.std.proofs.lemmas.Int.{of_z-to_z}
 use Rattle.x86_operand.specs.declared.register.RegisterBank.{RegisterBank}
-use Rattle.x86_operand.specs.Kind.{Kind, WithoutModRM, InRegister, InMemory}
+use Rattle.x86_operand.specs.Kind.{Kind, WithoutModRM, InRegister, InMemory, VectorIndexed, is_vector, plain_kind}
 use Rattle.x86_operand.specs.Meaning.{OperandMeaning, register, signed, unsigned, nothing}
-use Rattle.x86_address.specs.Place.{Place, Target, NoTarget, Number, At, kind_of, kind_of_target, IsPlace, target}
+use Rattle.x86_address.specs.Place.{Place, Target, NoTarget, Number, At, IsOfKind, kind_of_target, IsPlace, target}
 use Rattle.x86_address.specs.Shortest.{shortest, x_of, b_of}
-use Rattle.x86_address.proofs.Shortest.{kind_of_target-target, target-shortest, plain-in_banks}
+use Rattle.x86_address.proofs.Shortest.{kind_of_target-target, names-shortest, IsSpellable-target, plain-in_banks}
 use Rattle.vex_rows.specs.Row.{Among}
 use Rattle.vex_forms.specs.declared.slot.Slot.{Slot}
 use Rattle.vex_forms.specs.declared.slot.Slot.TheVariants.{G, V, E, U8, I8, R4}
@@ -73,13 +73,14 @@ module _ (index_bank : RegisterBank) (r v reg : ℕ) (e : Target) (imm : ℕ) wh
   v_given I8 h = cc
   v_given (R4 bank) h = cc
 
-  e_operand : (bank : RegisterBank) (kind : Kind) (e : Target) → kind_of_target e ≡ kind → target_of kind (target_operand bank index_bank e) ≡ e
+  e_operand : (bank : RegisterBank) (kind : Kind) (e : Target) → kind_of_target e ≡ plain_kind kind → target_of kind (target_operand bank index_bank e) ≡ e
   e_operand bank WithoutModRM NoTarget h = refl
   e_operand bank InRegister (Number n) h = refl
   e_operand bank InMemory (At a) h = ap At (plain-in_banks index_bank a)
+  e_operand bank VectorIndexed (At a) h = ap At (plain-in_banks index_bank a)
   e_operand bank _ _ h = cc
 
-  pub e_given : (kind : Kind) (slot : Slot) → names_e slot ≡ true → kind_of_target e ≡ kind → target_of kind (slot_operand index_bank r v reg e imm slot) ≡ e
+  pub e_given : (kind : Kind) (slot : Slot) → names_e slot ≡ true → kind_of_target e ≡ plain_kind kind → target_of kind (slot_operand index_bank r v reg e imm slot) ≡ e
   e_given kind (E bank) h k = e_operand bank kind e k
   e_given kind (G bank) h k = cc
   e_given kind (V bank) h k = cc
@@ -135,35 +136,36 @@ map_same f g (x ∷ xs) h = ap₂ ◌∷◌ (h x (inl refl)) (map_same f g xs (�
 -- each slot says the same of the parts that are put together as of the parts that were read
 module _ (index_bank : RegisterBank) (slots : List Slot) (kind : Kind) (group : Option ℕ) (r v reg : ℕ) (place : Place) (x b : Bool) (imm : ℕ)
     (few : immediates slots ≤ 1) (r_fits : r ≤ 1) (v_fits : v ≤ 15) (reg_fits : reg < 8) (imm_fits : imm < 256)
-    (is_place : IsPlace place) (is_kind : kind_of place ≡ kind) (in_group : FitsGroup group reg) where
+    (is_place : IsPlace place) (is_kind : IsOfKind kind place) (in_group : FitsGroup group reg) where
   immediate_again : (e' : Target) (r' v' reg' : ℕ) (slot : Slot) → Among slot slots → names_imm slot ≡ true →
-      slot_operand index_bank r' v' reg' e' (imm_of (operand_of_kind names_imm slots (map (slot_operand index_bank r v reg (target place x b) imm) slots))) slot
-      ≡ slot_operand index_bank r v reg (target place x b) imm slot
+      slot_operand index_bank r' v' reg' e' (imm_of (operand_of_kind names_imm slots (map (slot_operand index_bank r v reg (target (is_vector kind) place x b) imm) slots))) slot
+      ≡ slot_operand index_bank r v reg (target (is_vector kind) place x b) imm slot
   immediate_again e' r' v' reg' slot m h =
-      let first = first_operand names_imm (slot_operand index_bank r v reg (target place x b) imm) slots slot m h in
+      let first = first_operand names_imm (slot_operand index_bank r v reg (target (is_vector kind) place x b) imm) slots slot m h in
       let same = only_immediate slots first.slot slot few first.among m first.passes h in
-      let imm_is = ap imm_of first.operand ∙ ap (λ s. imm_of (slot_operand index_bank r v reg (target place x b) imm s)) same in
+      let imm_is = ap imm_of first.operand ∙ ap (λ s. imm_of (slot_operand index_bank r v reg (target (is_vector kind) place x b) imm s)) same in
       ap (λ n. slot_operand index_bank r' v' reg' e' n slot) imm_is
-      ∙ imm_given index_bank r v reg (target place x b) e' r' v' reg' imm slot imm_fits h
+      ∙ imm_given index_bank r v reg (target (is_vector kind) place x b) e' r' v' reg' imm slot imm_fits h
 
   pub slot_again : (slot : Slot) → Among slot slots →
-      let operands = map (slot_operand index_bank r v reg (target place x b) imm) slots in
+      let operands = map (slot_operand index_bank r v reg (target (is_vector kind) place x b) imm) slots in
       let g = number_of (operand_of_kind names_g slots operands) in
       let e = target_of kind (operand_of_kind names_e slots operands) in
-      slot_operand index_bank ((g / 8) % 2) (number_of (operand_of_kind names_v slots operands) % 16) (reg_for group g) (target (shortest e) (x_of e) (b_of e)) (imm_of (operand_of_kind names_imm slots operands)) slot
-      ≡ slot_operand index_bank r v reg (target place x b) imm slot
+      slot_operand index_bank ((g / 8) % 2) (number_of (operand_of_kind names_v slots operands) % 16) (reg_for group g) (target (is_vector kind) (shortest e) (x_of e) (b_of e)) (imm_of (operand_of_kind names_imm slots operands)) slot
+      ≡ slot_operand index_bank r v reg (target (is_vector kind) place x b) imm slot
   slot_again (G bank) m =
-      let first = first_operand names_g (slot_operand index_bank r v reg (target place x b) imm) slots (G bank) m refl in
-      let g_is = ap number_of first.operand ∙ g_given index_bank r v reg (target place x b) imm first.slot first.passes in
+      let first = first_operand names_g (slot_operand index_bank r v reg (target (is_vector kind) place x b) imm) slots (G bank) m refl in
+      let g_is = ap number_of first.operand ∙ g_given index_bank r v reg (target (is_vector kind) place x b) imm first.slot first.passes in
       ap (λ n. register (record { bank = bank; num = n })) (g_number group reg r _ reg_fits r_fits g_is in_group)
   slot_again (V bank) m =
-      let first = first_operand names_v (slot_operand index_bank r v reg (target place x b) imm) slots (V bank) m refl in
-      let v_is = ap number_of first.operand ∙ v_given index_bank r v reg (target place x b) imm first.slot first.passes in
+      let first = first_operand names_v (slot_operand index_bank r v reg (target (is_vector kind) place x b) imm) slots (V bank) m refl in
+      let v_is = ap number_of first.operand ∙ v_given index_bank r v reg (target (is_vector kind) place x b) imm first.slot first.passes in
       ap (λ n. register (record { bank = bank; num = n })) (ap (λ n. n % 16) v_is ∙ omega arith)
   slot_again (E bank) m =
-      let first = first_operand names_e (slot_operand index_bank r v reg (target place x b) imm) slots (E bank) m refl in
-      let e_is = ap (target_of kind) first.operand ∙ e_given index_bank r v reg (target place x b) imm kind first.slot first.passes (kind_of_target-target place x b ∙ is_kind) in
-      ap (target_operand bank index_bank) (ap (λ e. target (shortest e) (x_of e) (b_of e)) e_is ∙ target-shortest place x b is_place)
+      let first = first_operand names_e (slot_operand index_bank r v reg (target (is_vector kind) place x b) imm) slots (E bank) m refl in
+      let e_is = ap (target_of kind) first.operand ∙ e_given index_bank r v reg (target (is_vector kind) place x b) imm kind first.slot first.passes (kind_of_target-target (is_vector kind) place x b ∙ is_kind.plain) in
+      ap (target_operand bank index_bank) (ap (λ e. target (is_vector kind) (shortest e) (x_of e) (b_of e)) e_is
+      ∙ names-shortest (is_vector kind) _ (IsSpellable-target (is_vector kind) place x b is_place is_kind.sib))
   slot_again U8 m = immediate_again NoTarget 0 0 0 U8 m refl
   slot_again I8 m = immediate_again NoTarget 0 0 0 I8 m refl
   slot_again (R4 bank) m = immediate_again NoTarget 0 0 0 (R4 bank) m refl

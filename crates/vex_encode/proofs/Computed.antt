@@ -15,7 +15,7 @@ use Rattle.vex_rows.specs.FormRows.{form_row, gathers, sizes}
 use Rattle.vex_rows.specs.Steps.{steps}
 use Rattle.vex_rows.specs.Groups.{groups}
 use Rattle.vex_rows.specs.Table.{table}
-use Rattle.vex_rows.specs.Row.{rows, choices, exists, has_groups, opcode_of, has_imm}
+use Rattle.vex_rows.specs.Row.{rows, choices, exists, has_groups, mark_of, opcode_of, has_imm}
 use Rattle.vex_forms.specs.Slots.{slots, index_bank, size_of, v_rule}
 use Rattle.vex_forms.specs.Gives.{gives}
 use Rattle.vex_forms.specs.FormWalk.{walk_form}
@@ -29,13 +29,13 @@ abbrev moves : Meaning
 moves = record { evex = false; opcode = Float VMOVAPS; operands = register (record { bank = X; num = 0 }) ∷ register (record { bank = X; num = 8 }) ∷ []; size = None }
 
 canon_moves : canon moves ≡ Some (0xC5 ∷ 0x78 ∷ 0x29 ∷ 0xC0 ∷ [])
-unfolding canon rows choices exists has_groups table steps form_row groups standard candidate shortest slots index_bank gathers size_of sizes v_rule gives opcode_of has_imm same_meaning same_operands same_operand same_register same_bank same_opcode opcode_number
+unfolding canon rows choices exists has_groups mark_of table steps form_row groups standard candidate shortest slots index_bank gathers size_of sizes v_rule gives opcode_of has_imm same_meaning same_operands same_operand same_register same_bank same_opcode opcode_number
 canon_moves = refl
 
 -- two entries give it, each at either W; the second has the operands the other way round, and needs no third byte of
 -- prefix at W 0
 rows_of_moves : all_standard moves rows ≡ (0xC4 ∷ 0xC1 ∷ 0x78 ∷ 0x28 ∷ 0xC0 ∷ []) ∷ (0xC4 ∷ 0xC1 ∷ 0xF8 ∷ 0x28 ∷ 0xC0 ∷ []) ∷ (0xC5 ∷ 0x78 ∷ 0x29 ∷ 0xC0 ∷ []) ∷ (0xC4 ∷ 0x61 ∷ 0xF8 ∷ 0x29 ∷ 0xC0 ∷ []) ∷ []
-unfolding rows choices exists has_groups table steps form_row groups standard candidate shortest slots index_bank gathers size_of sizes v_rule gives opcode_of has_imm same_meaning same_operands same_operand same_register same_bank same_opcode opcode_number
+unfolding rows choices exists has_groups mark_of table steps form_row groups standard candidate shortest slots index_bank gathers size_of sizes v_rule gives opcode_of has_imm same_meaning same_operands same_operand same_register same_bank same_opcode opcode_number
 rows_of_moves = refl
 
 -- VADDPS x0, x1, x2
@@ -44,11 +44,11 @@ adds = record { evex = false; opcode = Float VADDPS; operands = register (record
 
 -- one entry gives it, at either W
 rows_of_adds : all_standard adds rows ≡ (0xC5 ∷ 0xF0 ∷ 0x58 ∷ 0xC2 ∷ []) ∷ (0xC4 ∷ 0xE1 ∷ 0xF0 ∷ 0x58 ∷ 0xC2 ∷ []) ∷ []
-unfolding rows choices exists has_groups table steps form_row groups standard candidate shortest slots index_bank gathers size_of sizes v_rule gives opcode_of has_imm same_meaning same_operands same_operand same_register same_bank same_opcode opcode_number
+unfolding rows choices exists has_groups mark_of table steps form_row groups standard candidate shortest slots index_bank gathers size_of sizes v_rule gives opcode_of has_imm same_meaning same_operands same_operand same_register same_bank same_opcode opcode_number
 rows_of_adds = refl
 
 canon_adds : canon adds ≡ Some (0xC5 ∷ 0xF0 ∷ 0x58 ∷ 0xC2 ∷ [])
-unfolding canon rows choices exists has_groups table steps form_row groups standard candidate shortest slots index_bank gathers size_of sizes v_rule gives opcode_of has_imm same_meaning same_operands same_operand same_register same_bank same_opcode opcode_number
+unfolding canon rows choices exists has_groups mark_of table steps form_row groups standard candidate shortest slots index_bank gathers size_of sizes v_rule gives opcode_of has_imm same_meaning same_operands same_operand same_register same_bank same_opcode opcode_number
 canon_adds = refl
 
 empty : fails [] ≡ Some (ExhaustedInput, 0)

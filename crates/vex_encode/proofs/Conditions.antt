@@ -11,18 +11,19 @@ use Rattle.x86_operand.specs.declared.register.RegisterBank.{RegisterBank}
 use Rattle.x86_operand.specs.declared.address.Address.{Address}
 use Rattle.x86_operand.specs.declared.address.Index.{Index}
 use Rattle.x86_operand.specs.Register.{Register}
-use Rattle.x86_operand.specs.Kind.{Kind, WithoutModRM, InRegister, InMemory}
+use Rattle.x86_operand.specs.Kind.{Kind, WithoutModRM, InRegister, InMemory, VectorIndexed, is_vector, plain_kind}
 use Rattle.x86_operand.specs.Meaning.{OperandMeaning, register, signed, unsigned, memory, Meaning}
 use Rattle.x86_operand.specs.Same.{same_meaning}
 use Rattle.x86_operand.specs.Same.Laws.{same_meaning_refl}
-use Rattle.x86_address.specs.Place.{Place, Base, NoBase, Rip, Numbered, PlainAddress, Target, Number, At, kind_of, kind_of_target, IsPlace, target}
+use Rattle.x86_address.specs.Place.{Place, Base, NoBase, Rip, Numbered, PlainAddress, Target, Number, At, IsOfKind, kind_of_target, has_sib, IsPlace, target}
 use Rattle.x86_address.specs.Shortest.{plain, plain_base, plain_index, base_in, base_register, index_register, in_banks, shortest, x_of, b_of, IsBase, IsIndex, IsSpellableAddress, IsSpellable}
 use Rattle.x86_address.proofs.Encodable.{power_of_scale, scale_of_power}
-use Rattle.x86_address.proofs.Shortest.{kind_of_target-target, names-shortest, IsSpellable-target}
+use Rattle.x86_address.proofs.Shortest.{kind_of_target-target, names-shortest, sib-shortest, IsSpellable-target}
+use Rattle.vex_rows.specs.FormRows.{gathers}
 use Rattle.vex_rows.specs.Steps.{steps}
 use Rattle.vex_rows.specs.Groups.{groups}
-use Rattle.vex_rows.specs.Row.{Row, IsRow, Among, has_groups, has_imm}
-use Rattle.vex_rows.specs.Row.Lists.{both-parts}
+use Rattle.vex_rows.specs.Row.{Row, IsRow, Among, has_groups, has_imm, is_memory}
+use Rattle.vex_rows.specs.Row.Lists.{both-parts, parts-both}
 use Rattle.vex_rows.specs.Row.Laws.{chosen-row}
 use Rattle.vex_forms.specs.declared.slot.Slot.{Slot}
 use Rattle.vex_forms.specs.declared.slot.Slot.TheVariants.{G, V, E, U8, I8, R4}
@@ -30,11 +31,15 @@ use Rattle.vex_forms.specs.Slots.{slots, slots_of, index_bank, names_g, names_v,
 use Rattle.vex_forms.specs.Gives.{gives, slot_operand, target_operand}
 use Rattle.vex_forms.specs.Tests.{immediates}
 use Rattle.vex_forms.specs.Slots.Laws.{sound_row, distinct, free}
+use Rattle.vex_forms.specs.Layout.Laws.{kinds, is_memory-memory_kind}
 use Rattle.vex_decode.specs.Spelling.{Syntax, meant, IsSyntax}
-use Rattle.vex_encode.specs.Standard.{operand_of_kind, number_of, imm_of, target_of, reg_for, candidate, standard}
+use Rattle.vex_encode.specs.Standard.{operand_of_kind, number_of, imm_of, target_of, reg_for, candidate, is_placed, is_given, standard}
 use Rattle.vex_encode.specs.Conditions.{RegisterFits, SlotBaseFits, SlotIndexFits, AddressFits, PlacedFits, OperandFits, OperandsFit, CanGive}
 use Rattle.vex_encode.specs.Laws.{StandardIsSome}
-use Rattle.vex_encode.proofs.Standard.{reg_below, imm_byte, few_at_most, group_none, or_false, standard_spells}
+use Rattle.vex_encode.specs.Assembly.{IsPlaced}
+use Rattle.vex_encode.proofs.Candidate.{no_operand}
+use Rattle.vex_encode.proofs.Fitting.{placed}
+use Rattle.vex_encode.proofs.Standard.{reg_below, imm_byte, few_at_most, group_none, or_false, placed_with, least_sib, standard_spells}
 
 -- ---- what a row gives fits
 
@@ -44,36 +49,37 @@ base_given index_bank NoBase index is alone = tt
 base_given index_bank Rip index is alone = inr (refl, ap (index_register index_bank) (alone refl))
 base_given index_bank (Numbered n) index is alone = inl (record { bank = refl; num = omega arith })
 
-index_given : (bank : RegisterBank) (index : Option (ℕ × ℕ)) → IsIndex index → SlotIndexFits bank (index_register bank index)
-index_given bank None is = tt
-index_given bank (Some index) is = (record { bank = refl; num = omega arith }, is.1, scale_of_power index.1 (is.2, is.3, is.4))
+index_given : (vector : Bool) (bank : RegisterBank) (index : Option (ℕ × ℕ)) → IsIndex vector index → SlotIndexFits vector bank (index_register bank index)
+index_given vector bank None is = is
+index_given vector bank (Some index) is = (record { bank = refl; num = omega arith }, is.1, scale_of_power index.1 (is.2, is.3, is.4))
 
-address_given : (index_bank : RegisterBank) (a : PlainAddress) → IsSpellableAddress a → AddressFits index_bank (in_banks index_bank a)
-address_given index_bank a is = record {
+address_given : (vector : Bool) (index_bank : RegisterBank) (a : PlainAddress) → IsSpellableAddress vector a → AddressFits vector index_bank (in_banks index_bank a)
+address_given vector index_bank a is = record {
   base = base_given index_bank a.base a.index is.base is.alone;
-  index = index_given index_bank a.index is.index;
+  index = index_given vector index_bank a.index is.index;
   disp = is.disp;
 }
 
 -- so does what stands in the place of E, in a row of its kind
-placed_given : (kind : Kind) (index_bank bank : RegisterBank) (e : Target) → IsSpellable e → kind_of_target e ≡ kind → kind ≢ WithoutModRM → PlacedFits kind index_bank bank (target_operand bank index_bank e)
+placed_given : (kind : Kind) (index_bank bank : RegisterBank) (e : Target) → IsSpellable (is_vector kind) e → kind_of_target e ≡ plain_kind kind → kind ≢ WithoutModRM → PlacedFits kind index_bank bank (target_operand bank index_bank e)
 placed_given WithoutModRM index_bank bank e is k other = absurd (other refl)
 placed_given InRegister index_bank bank (Number n) is k other = record { bank = refl; num = omega arith }
-placed_given InMemory index_bank bank (At a) is k other = address_given index_bank a is
+placed_given InMemory index_bank bank (At a) is k other = address_given false index_bank a is
+placed_given VectorIndexed index_bank bank (At a) is k other = address_given true index_bank a is
 placed_given _ index_bank bank _ is k other = cc
 
 -- so does each operand that a spelling gives
 module _ (index_bank : RegisterBank) (kind : Kind) (r v reg : ℕ) (place : Place) (x b : Bool) (imm : ℕ)
-    (r_fits : r ≤ 1) (v_fits : v ≤ 15) (reg_fits : reg < 8) (imm_fits : imm < 256) (is_place : IsPlace place) (is_kind : kind_of place ≡ kind) where
-  operand_given : (slot : Slot) → (kind ≡ WithoutModRM → names_e slot ≡ false) → OperandFits kind index_bank slot (slot_operand index_bank r v reg (target place x b) imm slot)
+    (r_fits : r ≤ 1) (v_fits : v ≤ 15) (reg_fits : reg < 8) (imm_fits : imm < 256) (is_place : IsPlace place) (is_kind : IsOfKind kind place) where
+  operand_given : (slot : Slot) → (kind ≡ WithoutModRM → names_e slot ≡ false) → OperandFits kind index_bank slot (slot_operand index_bank r v reg (target (is_vector kind) place x b) imm slot)
   operand_given (G bank) alone = record { bank = refl; num = omega arith }
   operand_given (V bank) alone = record { bank = refl; num = v_fits }
-  operand_given (E bank) alone = placed_given kind index_bank bank (target place x b) (IsSpellable-target place x b is_place) (kind_of_target-target place x b ∙ is_kind) (λ k. let never = alone k in cc)
+  operand_given (E bank) alone = placed_given kind index_bank bank (target (is_vector kind) place x b) (IsSpellable-target (is_vector kind) place x b is_place is_kind.sib) (kind_of_target-target (is_vector kind) place x b ∙ is_kind.plain) (λ k. let never = alone k in cc)
   operand_given U8 alone = omega arith
   operand_given I8 alone = search rules
   operand_given (R4 bank) alone = record { bank = refl; num = omega arith }
 
-  operands_given : (slots : List Slot) → (kind ≡ WithoutModRM → list_any names_e slots ≡ false) → OperandsFit kind index_bank slots (map (slot_operand index_bank r v reg (target place x b) imm) slots)
+  operands_given : (slots : List Slot) → (kind ≡ WithoutModRM → list_any names_e slots ≡ false) → OperandsFit kind index_bank slots (map (slot_operand index_bank r v reg (target (is_vector kind) place x b) imm) slots)
   operands_given [] alone = tt
   operands_given (slot ∷ slots) alone = (operand_given slot (λ k. (neither _ _ (alone k)).0), operands_given slots (λ k. (neither _ _ (alone k)).1)) where
     neither : (b c : Bool) → (b || c) ≡ false → (b ≡ false) × (c ≡ false)
@@ -98,24 +104,24 @@ base_alone None index fits h = cc
 base_alone (Some reg) index (inl fits) h = let never : Numbered reg.num ≡ Rip = subst (λ bank. base_in bank reg.num ≡ Rip) fits.bank h in cc
 base_alone (Some reg) index (inr fits) h = ap plain_index fits.1
 
-index_again : (bank : RegisterBank) (index : Option Index) → SlotIndexFits bank index → index_register bank (plain_index index) ≡ index
-index_again bank None fits = refl
-index_again bank (Some index) fits = ap (λ bank. Some (record { reg = record { bank = bank; num = index.reg.num }; scale = index.scale })) (sym fits.0.bank)
+index_again : (vector : Bool) (bank : RegisterBank) (index : Option Index) → SlotIndexFits vector bank index → index_register bank (plain_index index) ≡ index
+index_again vector bank None fits = refl
+index_again vector bank (Some index) fits = ap (λ bank. Some (record { reg = record { bank = bank; num = index.reg.num }; scale = index.scale })) (sym fits.0.bank)
 
-index_named : (bank : RegisterBank) (index : Option Index) → SlotIndexFits bank index → IsIndex (plain_index index)
-index_named bank None fits = tt
-index_named bank (Some index) fits = let power = power_of_scale index.scale fits.2 in (omega arith, fits.1, power.0, power.1, power.2)
+index_named : (vector : Bool) (bank : RegisterBank) (index : Option Index) → SlotIndexFits vector bank index → IsIndex vector (plain_index index)
+index_named vector bank None fits = fits
+index_named vector bank (Some index) fits = let power = power_of_scale index.scale fits.2 in (omega arith, fits.1, power.0, power.1, power.2)
 
-address_again : (index_bank : RegisterBank) (a : Address) → AddressFits index_bank a → in_banks index_bank (plain a) ≡ a
-address_again index_bank a fits =
+address_again : (vector : Bool) (index_bank : RegisterBank) (a : Address) → AddressFits vector index_bank a → in_banks index_bank (plain a) ≡ a
+address_again vector index_bank a fits =
     let base = base_again a.base a.index fits.base in
-    let index = index_again index_bank a.index fits.index in
+    let index = index_again vector index_bank a.index fits.index in
     λ i. record { base = base i; index = index i; disp = a.disp }
 
-address_named : (index_bank : RegisterBank) (a : Address) → AddressFits index_bank a → IsSpellableAddress (plain a)
-address_named index_bank a fits = record {
+address_named : (vector : Bool) (index_bank : RegisterBank) (a : Address) → AddressFits vector index_bank a → IsSpellableAddress vector (plain a)
+address_named vector index_bank a fits = record {
   base = base_named a.base a.index fits.base;
-  index = index_named index_bank a.index fits.index;
+  index = index_named vector index_bank a.index fits.index;
   disp = fits.disp;
   alone = base_alone a.base a.index fits.base;
 }
@@ -126,11 +132,13 @@ register_again bank reg n fits e = λ i. register (record { bank = sym fits.bank
 
 -- what is asked of the place of E gives the operand
 placed_again : (kind : Kind) (index_bank bank : RegisterBank) (operand : OperandMeaning) → PlacedFits kind index_bank bank operand →
-    let e = target_of kind operand in target_operand bank index_bank (target (shortest e) (x_of e) (b_of e)) ≡ operand
+    let e = target_of kind operand in target_operand bank index_bank (target (is_vector kind) (shortest e) (x_of e) (b_of e)) ≡ operand
 placed_again InRegister index_bank bank (register reg) fits =
-    ap (target_operand bank index_bank) (names-shortest (Number reg.num) (omega arith)) ∙ register_again bank reg reg.num fits refl
+    ap (target_operand bank index_bank) (names-shortest false (Number reg.num) (omega arith)) ∙ register_again bank reg reg.num fits refl
 placed_again InMemory index_bank bank (memory a) fits =
-    ap (target_operand bank index_bank) (names-shortest (At (plain a)) (address_named index_bank a fits)) ∙ ap memory (address_again index_bank a fits)
+    ap (target_operand bank index_bank) (names-shortest false (At (plain a)) (address_named false index_bank a fits)) ∙ ap memory (address_again false index_bank a fits)
+placed_again VectorIndexed index_bank bank (memory a) fits =
+    ap (target_operand bank index_bank) (names-shortest true (At (plain a)) (address_named true index_bank a fits)) ∙ ap memory (address_again true index_bank a fits)
 placed_again _ index_bank bank _ fits = absurd fits
 
 -- ---- an operand and its slot stand at the same place of their lists
@@ -202,7 +210,7 @@ module _ (index_bank : RegisterBank) (kind : Kind) (group : Option ℕ) (slots :
   slot_given : (slot : Slot) (operand : OperandMeaning) → Paired slot operand slots operands → OperandFits kind index_bank slot operand →
       let g = number_of (operand_of_kind names_g slots operands) in
       let e = target_of kind (operand_of_kind names_e slots operands) in
-      slot_operand index_bank ((g / 8) % 2) (number_of (operand_of_kind names_v slots operands) % 16) (reg_for group g) (target (shortest e) (x_of e) (b_of e)) (imm_of (operand_of_kind names_imm slots operands)) slot
+      slot_operand index_bank ((g / 8) % 2) (number_of (operand_of_kind names_v slots operands) % 16) (reg_for group g) (target (is_vector kind) (shortest e) (x_of e) (b_of e)) (imm_of (operand_of_kind names_imm slots operands)) slot
       ≡ operand
   slot_given (G bank) (register reg) p fits =
       let none = no_group (any_paired names_g (G bank) (register reg) slots operands p refl) in
@@ -223,7 +231,7 @@ module _ (index_bank : RegisterBank) (kind : Kind) (group : Option ℕ) (slots :
       ap signed (ap (cast_signed w8) imm ∙ signed_again n fits)
   slot_given (E bank) operand p fits =
       let e = found names_e (E bank) operand slots operands one_e p refl in
-      ap (λ o. target_operand bank index_bank (target (shortest (target_of kind o)) (x_of (target_of kind o)) (b_of (target_of kind o)))) e ∙ placed_again kind index_bank bank operand fits
+      ap (λ o. target_operand bank index_bank (target (is_vector kind) (shortest (target_of kind o)) (x_of (target_of kind o)) (b_of (target_of kind o)))) e ∙ placed_again kind index_bank bank operand fits
   slot_given _ _ p fits = absurd fits
 
 -- ---- the slots of a row
@@ -255,11 +263,17 @@ grouped true false h k = cc
 grouped false any h k = refl
 
 -- a kind with ModRM isn't the kind without
-with_modrm : (modrm : Bool) (kind : Kind) → Among kind (if modrm then InRegister ∷ InMemory ∷ [] else WithoutModRM ∷ []) → kind ≡ WithoutModRM → modrm ≡ false
-with_modrm true kind (inl e) k = let never : InRegister ≡ WithoutModRM = sym e ∙ k in cc
-with_modrm true kind (inr (inl e)) k = let never : InMemory ≡ WithoutModRM = sym e ∙ k in cc
-with_modrm true kind (inr (inr e)) k = absurd e
-with_modrm false kind m k = refl
+with_modrm : (vector modrm : Bool) (kind : Kind) → Among kind (kinds vector modrm) → kind ≡ WithoutModRM → modrm ≡ false
+with_modrm vector true kind (inl e) k = let never : InRegister ≡ WithoutModRM = sym e ∙ k in cc
+with_modrm vector true kind (inr (inl e)) k = let never : true ≡ false = sym (is_memory-memory_kind vector) ∙ ap is_memory (sym e ∙ k) in cc
+with_modrm vector true kind (inr (inr e)) k = absurd e
+with_modrm vector false kind m k = refl
+
+-- an address that fits, whose index is a vector register, has a SIB byte
+sib_there : (kind : Kind) (bank : RegisterBank) (operand : OperandMeaning) → is_vector kind ≡ true → IsPlaced kind bank operand → has_sib (shortest (target_of kind operand)) ≡ true
+sib_there VectorIndexed bank (memory a) vector fits = sib-shortest (At (plain a)) refl (address_named true bank a fits)
+sib_there VectorIndexed bank _ vector fits = absurd fits
+sib_there _ bank operand vector fits = cc
 
 module _ (row : Row) (m : Meaning) (is_row : IsRow row) where
   -- with a group no slot names the field reg
@@ -274,7 +288,7 @@ module _ (row : Row) (m : Meaning) (is_row : IsRow row) where
   unfolding slots
   unplaced kind =
       let parts = both-parts (not (has_groups row.entry.form) || not (list_any names_g (slots_of row.entry.form row))) ((steps row.entry.form).modrm || not (list_any names_e (slots_of row.entry.form row))) (free row.entry.form row) in
-      or_false (steps row.entry.form).modrm (list_any names_e (slots_of row.entry.form row)) parts.1 (with_modrm (steps row.entry.form).modrm row.kind (chosen-row row is_row).kind kind)
+      or_false (steps row.entry.form).modrm (list_any names_e (slots_of row.entry.form row)) parts.1 (with_modrm (gathers row.entry.form) (steps row.entry.form).modrm row.kind (chosen-row row is_row).kind kind)
 
   -- what the row gives fits it
   given_fits : (s : Syntax) → IsSyntax row s → CanGive row (meant row s)
@@ -301,9 +315,22 @@ module _ (row : Row) (m : Meaning) (is_row : IsRow row) where
       let operands = given_again row.kind (index_bank row) _ (slots row) m.operands fits.operands (slot_given (index_bank row) row.kind row.group (slots row) m.operands one.g one.v one.e one.imm ungrouped) in
       λ i. record { evex = sym fits.mark i; opcode = sym fits.opcode i; operands = operands i; size = sym fits.size i }
 
+  -- and their place is of the row's kind
+  fits_placed : CanGive row m → is_placed row.kind (candidate row m).place ≡ true
+  unfolding candidate
+  fits_placed fits = placed_with row.kind _ (by (list_any names_e (slots row)) refl) where
+    by : (b : Bool) → list_any names_e (slots row) ≡ b → is_vector row.kind ≡ true → has_sib (shortest (target_of row.kind (operand_of_kind names_e (slots row) m.operands))) ≡ true
+    by true named vector =
+        sib_there row.kind (index_bank row) (operand_of_kind names_e (slots row) m.operands) vector (placed row.kind (index_bank row) (slots row) m.operands fits.operands (λ memory. named))
+    by false none vector =
+        subst (λ o. has_sib (shortest (target_of row.kind o)) ≡ true) (sym (no_operand names_e (slots row) m.operands none)) (least_sib row.kind vector)
+
+  pub fits_given : CanGive row m → is_given row m ≡ true
+  fits_given fits = parts-both _ _ (fits_placed fits) (ap (λ n. same_meaning n m) (fits_meant fits) ∙ same_meaning_refl m)
+
   fits_there : CanGive row m → IsSome (standard row m)
   unfolding standard
-  fits_there fits = rw (ap (λ n. same_meaning n m) (fits_meant fits) ∙ same_meaning_refl m) refl
+  fits_there fits = rw (fits_given fits) refl
 
 pub standard_is_some : StandardIsSome
 standard_is_some row m is_row = (there_fits row m is_row, fits_there row m is_row)

@@ -5,10 +5,10 @@ use Rattle.std.proofs.Common.{zero, suc, get_or, add-one, eqb-true, inl, inr, ar
 use Rattle.std.proofs.lemmas.List.{map-append}
 use Rattle.x86_opcode.specs.declared.Opcode.{Opcode}
 use Rattle.x86_operand.specs.declared.register.RegisterBank.{RegisterBank}
-use Rattle.x86_operand.specs.Kind.{Kind, WithoutModRM, InRegister, InMemory}
+use Rattle.x86_operand.specs.Kind.{Kind, WithoutModRM, InRegister, InMemory, VectorIndexed, is_vector, plain_kind, memory_kind}
 use Rattle.x86_operand.specs.Meaning.{OperandMeaning, Meaning}
 use Rattle.x86_operand.specs.Same.{same_meaning}
-use Rattle.x86_operand.specs.Same.Laws.{same_meaning_equal, same_meaning_refl}
+use Rattle.x86_operand.specs.Same.Laws.{same_meaning_equal}
 use Rattle.x86_address.specs.Place.{Place, NoPlace, Direct, Based, RipBased, Scaled, Baseless, Target, NoTarget, Number, At, kind_of_target, target, place_bytes}
 use Rattle.x86_address.specs.Shortest.{shortest, x_of, b_of}
 use Rattle.x86_address.proofs.Shortest.{kind_of-shortest, kind_of_target-target}
@@ -18,7 +18,7 @@ use Rattle.vex_rows.specs.declared.form.Form.TheVariants.{Nothing}
 use Rattle.vex_rows.specs.declared.form_row.SlotRule.{SlotRule}
 use Rattle.vex_rows.specs.declared.form_row.SlotRule.TheVariants as slot_rule
 use Rattle.vex_rows.specs.Few.{items}
-use Rattle.vex_rows.specs.FormRows.{form_row}
+use Rattle.vex_rows.specs.FormRows.{form_row, gathers}
 use Rattle.vex_rows.specs.Rules.{map_number}
 use Rattle.vex_rows.specs.Steps.{steps}
 use Rattle.vex_rows.specs.Groups.{groups}
@@ -30,13 +30,15 @@ use Rattle.vex_forms.specs.declared.slot.Slot.TheVariants.{G, V, E, U8, I8, R4}
 use Rattle.vex_forms.specs.Slots.{slots, slots_at, slots_of, bank_at, names_e}
 use Rattle.vex_forms.specs.Gives.{gives, slot_operand}
 use Rattle.vex_forms.specs.Layout.{kind_for, may_be, row_for}
+use Rattle.vex_forms.specs.Layout.Laws.{kinds, kind-again, is_memory-plain, is_memory-memory_kind}
 use Rattle.vex_forms.specs.Fields.{Fields}
 use Rattle.vex_decode.specs.Fields.{C4, C5, prefix_bytes, fits_two_bytes, shortest_form}
 use Rattle.vex_decode.specs.Spelling.{bytes_of, meant, imm_bytes}
-use Rattle.vex_encode.specs.Standard.{operand_of_kind, target_of, candidate, standard}
+use Rattle.vex_encode.specs.Standard.{operand_of_kind, target_of, candidate, is_placed, is_given, standard}
 use Rattle.vex_encode.specs.Encode.{standard_of, first_of, first, is_address, best}
+use Rattle.vex_encode.specs.Assembly.{kind_by}
 use Rattle.vex_encode.specs.Conditions.{CanGive}
-use Rattle.vex_encode.proofs.Conditions.{fits_meant, standard_is_some}
+use Rattle.vex_encode.proofs.Conditions.{fits_given, standard_is_some}
 use Rattle.vex_encode.proofs.Standard.{kind_asked, bytes_length, imm_length}
 use Rattle.vex_encode.proofs.Search.{NoLonger, first-append, first_of-none, first_of_two, first_none, best-first_of_two, among_at}
 
@@ -201,10 +203,16 @@ unfolding steps form_row
 has_e_memory Nothing row = refl
 has_e_memory _ row = refl
 
+has_e_vector : (form : Form) (row : Row) → has_e form (row_at row.entry row.w row.l VectorIndexed row.group) ≡ true
+unfolding steps form_row
+has_e_vector Nothing row = refl
+has_e_vector _ row = refl
+
 has_e_by : (form : Form) (row : Row) (kind : Kind) → has_e form (row_at row.entry row.w row.l kind row.group) ≡ true
 has_e_by form row WithoutModRM = has_e_without form row
 has_e_by form row InRegister = has_e_register form row
 has_e_by form row InMemory = has_e_memory form row
+has_e_by form row VectorIndexed = has_e_vector form row
 
 other_part : (a b : Bool) → (not a || b) ≡ true → a ≡ true → b ≡ true
 other_part true b h e = h
@@ -213,21 +221,21 @@ other_part false b h e = cc
 pub with_e : (form : Form) (row : Row) → (steps form).modrm ≡ true → list_any names_e (slots_of form row) ≡ true
 with_e form row h = other_part (steps form).modrm (list_any names_e (slots_of form row)) (has_e_by form row row.kind) h
 
-memory_with_modrm : (modrm : Bool) (kind : Kind) → Among kind (if modrm then InRegister ∷ InMemory ∷ [] else WithoutModRM ∷ []) → is_memory kind ≡ true → modrm ≡ true
-memory_with_modrm true kind m h = refl
-memory_with_modrm false kind (inl e) h = let never : is_memory WithoutModRM ≡ true = ap is_memory (sym e) ∙ h in cc
-memory_with_modrm false kind (inr m) h = absurd m
+memory_with_modrm : (vector modrm : Bool) (kind : Kind) → Among kind (kinds vector modrm) → is_memory kind ≡ true → modrm ≡ true
+memory_with_modrm vector true kind m h = refl
+memory_with_modrm vector false kind (inl e) h = let never : is_memory WithoutModRM ≡ true = ap is_memory (sym e) ∙ h in cc
+memory_with_modrm vector false kind (inr m) h = absurd m
 
 -- the meaning of the parts that are put together
 address_meant : (row : Row) (m : Meaning) → Among row.kind (kinds_of row.entry.form) → list_any is_address (meant row (candidate row m)).operands ≡ is_memory row.kind
 unfolding gives candidate slots
 address_meant row m among =
     let e = target_of row.kind (operand_of_kind names_e (slots row) m.operands) in
-    let named = target (shortest e) (x_of e) (b_of e) in
-    let kind : kind_of_target named ≡ row.kind = kind_of_target-target (shortest e) (x_of e) (b_of e) ∙ kind_of-shortest e ∙ kind_asked row.kind (operand_of_kind names_e (slots row) m.operands) in
+    let named = target (is_vector row.kind) (shortest e) (x_of e) (b_of e) in
+    let kind : kind_of_target named ≡ plain_kind row.kind = kind_of_target-target (is_vector row.kind) (shortest e) (x_of e) (b_of e) ∙ kind_of-shortest e ∙ kind_asked row.kind (operand_of_kind names_e (slots row) m.operands) in
     addresses_given _ _ _ _ named _ (slots row)
-    ∙ ap (λ b. list_any names_e (slots row) && b) (is_at-memory named ∙ ap is_memory kind)
-    ∙ by (list_any names_e (slots row)) (is_memory row.kind) (λ h. with_e row.entry.form row (memory_with_modrm (steps row.entry.form).modrm row.kind among h)) where
+    ∙ ap (λ b. list_any names_e (slots row) && b) (is_at-memory named ∙ ap is_memory kind ∙ is_memory-plain row.kind)
+    ∙ by (list_any names_e (slots row)) (is_memory row.kind) (λ h. with_e row.entry.form row (memory_with_modrm (gathers row.entry.form) (steps row.entry.form).modrm row.kind among h)) where
       by : (named memory : Bool) → (memory ≡ true → named ≡ true) → (named && memory) ≡ memory
       by true memory h = refl
       by false true h = let yes : false ≡ true = h refl in cc
@@ -240,9 +248,9 @@ pub record Made (row : Row) (m : Meaning) (bytes : List ℕ) : Type 0 where
 
 pub made : (row : Row) (m : Meaning) (bytes : List ℕ) → standard_of row m ≡ Some bytes → Made row m bytes
 unfolding standard
-made row m bytes e = by (exists row) (same_meaning (meant row (candidate row m)) m) refl e where
-  by : (there same : Bool) → same_meaning (meant row (candidate row m)) m ≡ same → (if there then (if same then Some (bytes_of row (candidate row m)) else None) else None) ≡ Some bytes → Made row m bytes
-  by true true h e = record { written = cc; means = same_meaning_equal _ _ h }
+made row m bytes e = by (exists row) (is_given row m) refl e where
+  by : (there same : Bool) → is_given row m ≡ same → (if there then (if same then Some (bytes_of row (candidate row m)) else None) else None) ≡ Some bytes → Made row m bytes
+  by true true h e = record { written = cc; means = same_meaning_equal _ _ (both-parts (is_placed row.kind (candidate row m).place) (same_meaning (meant row (candidate row m)) m) h).1 }
   by true false h e = cc
   by false same h e = cc
 
@@ -272,16 +280,11 @@ choice_at entry w row m =
     let chosen : ChoiceAt entry w (row_at entry w at_l.0 at_kind.0 at_group.0) = record { entry_is = refl; w_is = refl; kind = at_kind.1 } in
     subst (ChoiceAt entry w) (sym at_group.2) chosen
 
-one_kind : (modrm : Bool) (kind other : Kind) → Among kind (if modrm then InRegister ∷ InMemory ∷ [] else WithoutModRM ∷ []) → Among other (if modrm then InRegister ∷ InMemory ∷ [] else WithoutModRM ∷ []) → is_memory kind ≡ is_memory other → kind ≡ other
-one_kind true kind other (inl e) (inl f) h = e ∙ sym f
-one_kind true kind other (inl e) (inr (inl f)) h = let never : false ≡ true = ap is_memory (sym e) ∙ h ∙ ap is_memory f in cc
-one_kind true kind other (inr (inl e)) (inl f) h = let never : true ≡ false = ap is_memory (sym e) ∙ h ∙ ap is_memory f in cc
-one_kind true kind other (inr (inl e)) (inr (inl f)) h = e ∙ sym f
-one_kind true kind other (inr (inr e)) f h = absurd e
-one_kind true kind other e (inr (inr f)) h = absurd f
-one_kind false kind other (inl e) (inl f) h = e ∙ sym f
-one_kind false kind other (inr e) f h = absurd e
-one_kind false kind other e (inr f) h = absurd f
+one_kind : (vector modrm : Bool) (kind other : Kind) → Among kind (kinds vector modrm) → Among other (kinds vector modrm) → is_memory kind ≡ is_memory other → kind ≡ other
+one_kind vector modrm kind other m n h =
+    sym (kind-again vector modrm kind m)
+    ∙ ap (λ memory. if modrm then (if memory then memory_kind vector else InRegister) else WithoutModRM) h
+    ∙ kind-again vector modrm other n
 
 -- of two choices of an entry the one gives no longer bytes, unless the other alone has W 0
 no_longer_choice : (entry : Entry) (w other_w : Bool) (m : Meaning) (row other : Row) → (other_w ≡ false → w ≡ false) → ChoiceAt entry w row → ChoiceAt entry other_w other → NoLonger m row other
@@ -289,7 +292,7 @@ no_longer_choice entry w other_w m row other order at there a b e f =
     let same : row.entry ≡ other.entry = at.entry_is ∙ sym there.entry_is in
     let among = subst (λ (entry : Entry). Among row.kind (kinds_of entry.form)) (sym at.entry_is) at.kind in
     let among_other = subst (λ (entry : Entry). Among other.kind (kinds_of entry.form)) (sym there.entry_is) there.kind in
-    let kind = one_kind (steps entry.form).modrm row.kind other.kind at.kind there.kind (sym (kind_made row m a among e) ∙ kind_made other m b among_other f) in
+    let kind = one_kind (gathers entry.form) (steps entry.form).modrm row.kind other.kind at.kind there.kind (sym (kind_made row m a among e) ∙ kind_made other m b among_other f) in
     let fewer = no_longer row other m same kind (λ h. at.w_is ∙ order (sym there.w_is ∙ h)) in
     omega (arith, fewer, ap length (made row m a e).written, ap length (made other m b f).written)
 
@@ -314,13 +317,13 @@ pub first_of_l : (m : Meaning) (entry : Entry) (w : Bool) (l : ℕ) (memory : Bo
     first m (choices_of_l entry w l) ≡ first m (choices_of_kind entry w l (kind_for entry.form memory))
 first_of_l m entry w l memory is = by (steps entry.form).modrm refl memory is where
   by : (modrm : Bool) → (steps entry.form).modrm ≡ modrm → (memory : Bool) → memory ≡ list_any is_address m.operands →
-      first m (flat_map (choices_of_kind entry w l) (if modrm then InRegister ∷ InMemory ∷ [] else WithoutModRM ∷ [])) ≡ first m (choices_of_kind entry w l (if modrm then (if memory then InMemory else InRegister) else WithoutModRM))
+      first m (flat_map (choices_of_kind entry w l) (if modrm then InRegister ∷ memory_kind (gathers entry.form) ∷ [] else WithoutModRM ∷ [])) ≡ first m (choices_of_kind entry w l (if modrm then (if memory then memory_kind (gathers entry.form) else InRegister) else WithoutModRM))
   by true h true is =
-      first_of_two m (choices_of_kind entry w l) InRegister InMemory
-      ∙ ap (λ o. first_of o (first m (choices_of_kind entry w l InMemory))) (passed_over m entry w l InRegister (rw h (inl refl)) (λ k. let never : true ≡ false = is ∙ k in cc))
+      first_of_two m (choices_of_kind entry w l) InRegister (memory_kind (gathers entry.form))
+      ∙ ap (λ o. first_of o (first m (choices_of_kind entry w l (memory_kind (gathers entry.form))))) (passed_over m entry w l InRegister (rw h (inl refl)) (λ k. let never : true ≡ false = is ∙ k in cc))
   by true h false is =
-      first_of_two m (choices_of_kind entry w l) InRegister InMemory
-      ∙ ap (first_of (first m (choices_of_kind entry w l InRegister))) (passed_over m entry w l InMemory (rw h (inr (inl refl))) (λ k. let never : false ≡ true = is ∙ k in cc))
+      first_of_two m (choices_of_kind entry w l) InRegister (memory_kind (gathers entry.form))
+      ∙ ap (first_of (first m (choices_of_kind entry w l InRegister))) (passed_over m entry w l (memory_kind (gathers entry.form)) (rw h (inr (inl refl))) (λ k. let never : false ≡ true = is ∙ k ∙ is_memory-memory_kind (gathers entry.form) in cc))
       ∙ first_of-none _
   by false h memory is = first-append m (choices_of_kind entry w l WithoutModRM) [] ∙ first_of-none _
 
@@ -397,10 +400,19 @@ no_row entry w l memory group m is never = by (exists (row_for entry w l memory 
   by true e =
       let parts = neither (steps entry.form).modrm memory (and_true (may_be entry memory) (exists (row_for entry w l memory group)) e never) in
       let among : Among (kind_for entry.form memory) (kinds_of entry.form) = rw (parts.0) (inl refl) in
-      let kind : is_memory (kind_for entry.form memory) ≡ false = ap (λ modrm. is_memory (if modrm then (if memory then InMemory else InRegister) else WithoutModRM)) parts.0 in
+      let kind : is_memory (kind_for entry.form memory) ≡ false = ap (λ modrm. is_memory (if modrm then (if memory then memory_kind (gathers entry.form) else InRegister) else WithoutModRM)) parts.0 in
       sym (other_kind (row_for entry w l memory group) m among (λ k. let wrong : true ≡ false = sym parts.1 ∙ is ∙ k ∙ kind in cc))
 
 -- ---- a choice that is one
+
+-- its kind, by whether the index of its address is a vector register
+pub kind_chosen : (form : Form) (memory : Bool) → kind_by (is_vector (kind_for form memory)) (steps form).modrm memory ≡ kind_for form memory
+kind_chosen form memory = by (gathers form) (steps form).modrm memory where
+  by : (vector modrm memory : Bool) → kind_by (is_vector (if modrm then (if memory then memory_kind vector else InRegister) else WithoutModRM)) modrm memory ≡ (if modrm then (if memory then memory_kind vector else InRegister) else WithoutModRM)
+  by true true true = refl
+  by false true true = refl
+  by vector true false = refl
+  by vector false memory = refl
 
 pub first_true : (a b : Bool) → IsTrue (a && b) → a ≡ true
 first_true true b h = refl
@@ -413,8 +425,7 @@ second_true false b h = cc
 pub standard_given : (row : Row) (m : Meaning) (bytes : List ℕ) → IsRow row → exists row ≡ true → CanGive row m → bytes ≡ bytes_of row (candidate row m) → Some bytes ≡ standard_of row m
 unfolding standard
 standard_given row m bytes is_row there gives b =
-    let test : same_meaning (meant row (candidate row m)) m ≡ true = ap (λ k. same_meaning k m) (fits_meant row m is_row gives) ∙ same_meaning_refl m in
-    rw (there, test) (ap Some b)
+    rw (there, fits_given row m is_row gives) (ap Some b)
 
 pub standard_refused : (row : Row) (m : Meaning) → IsRow row → exists row ≡ true → (CanGive row m → ⊥) → None ≡ standard_of row m
 standard_refused row m is_row there never = rw there (by (standard row m) refl) where

@@ -3,12 +3,13 @@ use Rattle.std.specs.Prelude.{◌≡◌, refl, ℕ, ◌+◌, ◌<◌, true, List
 use Rattle.std.specs.List.{list_any}
 use Rattle.std.proofs.Common.{zero, suc, get_or, add-one, arith}
 use Rattle.x86_operand.specs.declared.register.RegisterBank.{RegisterBank}
-use Rattle.x86_operand.specs.Kind.{Kind, WithoutModRM, InRegister, InMemory}
-use Rattle.x86_operand.specs.Meaning.{OperandMeaning, register, signed, unsigned, memory, nothing}
+use Rattle.x86_operand.specs.Kind.{Kind, WithoutModRM, InRegister, InMemory, VectorIndexed}
+use Rattle.x86_operand.specs.Meaning.{OperandMeaning, memory, nothing}
+use Rattle.vex_rows.specs.Row.{is_memory}
 use Rattle.vex_forms.specs.declared.slot.Slot.{Slot}
 use Rattle.vex_forms.specs.declared.slot.Slot.TheVariants.{G, V, E, U8, I8, R4}
 use Rattle.vex_forms.specs.Slots.{names_e}
-use Rattle.vex_encode.specs.Assembly.{IsAddressOf, IsPlaced}
+use Rattle.vex_encode.specs.Assembly.{IsPlaced}
 use Rattle.vex_encode.specs.Conditions.{PlacedFits, OperandFits, OperandsFit}
 use Rattle.vex_encode.specs.Standard.{operand_of_kind}
 
@@ -47,26 +48,28 @@ module _ (kind : Kind) (index_bank : RegisterBank) where
   fit_end (x ∷ slots) (o ∷ operands) zero h e = absurd (omega arith)
   fit_end (x ∷ slots) (o ∷ operands) (suc i) h e = fit_end slots operands i (omega arith) (omega arith)
 
-address_placed : (index_bank bank : RegisterBank) (operand : OperandMeaning) → PlacedFits InMemory index_bank bank operand → IsAddressOf index_bank operand
-address_placed index_bank bank (memory address) fit = fit
-address_placed index_bank bank (register reg) fit = absurd fit
-address_placed index_bank bank (signed imm) fit = absurd fit
-address_placed index_bank bank (unsigned imm) fit = absurd fit
-address_placed index_bank bank nothing fit = absurd fit
+address_placed : (kind : Kind) (index_bank bank : RegisterBank) (operand : OperandMeaning) → PlacedFits kind index_bank bank operand → IsPlaced kind index_bank operand
+address_placed WithoutModRM index_bank bank operand fit = tt
+address_placed InRegister index_bank bank operand fit = tt
+address_placed InMemory index_bank bank (memory address) fit = fit
+address_placed InMemory index_bank bank _ fit = absurd fit
+address_placed VectorIndexed index_bank bank (memory address) fit = fit
+address_placed VectorIndexed index_bank bank _ fit = absurd fit
 
-placed_memory : (index_bank : RegisterBank) (slots : List Slot) (operands : List OperandMeaning) → OperandsFit InMemory index_bank slots operands → list_any names_e slots ≡ true → IsAddressOf index_bank (operand_of_kind names_e slots operands)
-placed_memory index_bank [] [] fit h = cc
-placed_memory index_bank [] (o ∷ operands) fit h = absurd fit
-placed_memory index_bank (s ∷ slots) [] fit h = absurd fit
-placed_memory index_bank (E bank ∷ slots) (o ∷ operands) fit h = address_placed index_bank bank o fit.0
-placed_memory index_bank (G bank ∷ slots) (o ∷ operands) fit h = placed_memory index_bank slots operands fit.1 h
-placed_memory index_bank (V bank ∷ slots) (o ∷ operands) fit h = placed_memory index_bank slots operands fit.1 h
-placed_memory index_bank (R4 bank ∷ slots) (o ∷ operands) fit h = placed_memory index_bank slots operands fit.1 h
-placed_memory index_bank (U8 ∷ slots) (o ∷ operands) fit h = placed_memory index_bank slots operands fit.1 h
-placed_memory index_bank (I8 ∷ slots) (o ∷ operands) fit h = placed_memory index_bank slots operands fit.1 h
+placed_memory : (kind : Kind) (index_bank : RegisterBank) (slots : List Slot) (operands : List OperandMeaning) → OperandsFit kind index_bank slots operands → list_any names_e slots ≡ true → IsPlaced kind index_bank (operand_of_kind names_e slots operands)
+placed_memory kind index_bank [] [] fit h = cc
+placed_memory kind index_bank [] (o ∷ operands) fit h = absurd fit
+placed_memory kind index_bank (s ∷ slots) [] fit h = absurd fit
+placed_memory kind index_bank (E bank ∷ slots) (o ∷ operands) fit h = address_placed kind index_bank bank o fit.0
+placed_memory kind index_bank (G bank ∷ slots) (o ∷ operands) fit h = placed_memory kind index_bank slots operands fit.1 h
+placed_memory kind index_bank (V bank ∷ slots) (o ∷ operands) fit h = placed_memory kind index_bank slots operands fit.1 h
+placed_memory kind index_bank (R4 bank ∷ slots) (o ∷ operands) fit h = placed_memory kind index_bank slots operands fit.1 h
+placed_memory kind index_bank (U8 ∷ slots) (o ∷ operands) fit h = placed_memory kind index_bank slots operands fit.1 h
+placed_memory kind index_bank (I8 ∷ slots) (o ∷ operands) fit h = placed_memory kind index_bank slots operands fit.1 h
 
 -- in a row with its operand E in memory, the operand there is an address that fits
-pub placed : (kind : Kind) (index_bank : RegisterBank) (slots : List Slot) (operands : List OperandMeaning) → OperandsFit kind index_bank slots operands → (kind ≡ InMemory → list_any names_e slots ≡ true) → IsPlaced kind index_bank (operand_of_kind names_e slots operands)
+pub placed : (kind : Kind) (index_bank : RegisterBank) (slots : List Slot) (operands : List OperandMeaning) → OperandsFit kind index_bank slots operands → (is_memory kind ≡ true → list_any names_e slots ≡ true) → IsPlaced kind index_bank (operand_of_kind names_e slots operands)
 placed WithoutModRM index_bank slots operands fit named = tt
 placed InRegister index_bank slots operands fit named = tt
-placed InMemory index_bank slots operands fit named = placed_memory index_bank slots operands fit (named refl)
+placed InMemory index_bank slots operands fit named = placed_memory InMemory index_bank slots operands fit (named refl)
+placed VectorIndexed index_bank slots operands fit named = placed_memory VectorIndexed index_bank slots operands fit (named refl)

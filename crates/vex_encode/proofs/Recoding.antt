@@ -1,10 +1,8 @@
 -- What a decode and the canonical bytes say together.
-use Rattle.std.specs.Prelude.{◌≡◌, refl, ◌↔◌, ◌≤◌, ℕ, length, Bool, true, false, List, take, Some, None, Result, Ok, Err, IsOk, IfOk, IfErr}
-use Rattle.std.proofs.Common.{ap, sym, ◌∙◌}
+use Rattle.std.specs.Prelude.{◌≡◌, refl, ◌↔◌, ◌≤◌, ℕ, length, Bool, true, List, take, Some, None, Result, Ok, Err, IsOk, IfOk, IfErr}
 use Rattle.x86_operand.specs.declared.error.DecodeError.{DecodeError}
 use Rattle.x86_operand.specs.Meaning.{Meaning, Decoded}
 use Rattle.x86_permit.specs.Permission.{permits}
-use Rattle.vex_forms.specs.Gives.{gives}
 use Rattle.vex_decode.specs.Spelling.{Spells}
 use Rattle.vex_decode.specs.Blocked.{blocked}
 use Rattle.vex_decode.proofs.Spells.{spells-not_blocked}
@@ -16,15 +14,9 @@ use Rattle.vex_encode.proofs.Canon.{canon_spells, canon_least}
 pub canonical_there : (bytes : List ℕ) (m : Meaning) → Spells bytes m → canon m ≡ None → ⊥
 canonical_there bytes m spells none = let least = canon_least m bytes spells in cc (least.1)
 
--- a spelling has no EVEX mark
-unmarked : (bytes : List ℕ) (m : Meaning) → Spells bytes m → m.evex ≡ false
-unfolding gives
-unmarked bytes m spells = ap (λ (m : Meaning). m.evex) spells.by.means
-
 pub recodes : (settings : List Bool) (bytes : List ℕ) (decoded : Decoded) (spelling : List ℕ) → blocked settings bytes ≡ None → decoded.len ≤ length bytes → Spells (take decoded.len bytes) decoded.meaning → permits settings decoded.meaning.evex decoded.meaning.opcode ≡ true → canon decoded.meaning ≡ Some spelling → RecodesAs settings bytes decoded spelling
 recodes settings bytes decoded spelling begun within spelled permitted canonical =
     let spells = canon_spells decoded.meaning spelling canonical in
-    let mark = unmarked (take decoded.len bytes) decoded.meaning spelled in
     record {
       begun = begun;
       within = within;
@@ -32,7 +24,7 @@ recodes settings bytes decoded spelling begun within spelled permitted canonical
       permitted = permitted;
       canonical = canonical;
       same = spells;
-      accepted = spells-not_blocked settings spelling decoded.meaning spells (ap (λ mark. permits settings mark decoded.meaning.opcode) (sym mark) ∙ permitted);
+      accepted = spells-not_blocked settings spelling decoded.meaning spells permitted;
     }
 
 module _ (settings : List Bool) (bytes : List ℕ) where

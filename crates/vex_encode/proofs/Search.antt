@@ -13,11 +13,12 @@ use Rattle.x86_operand.specs.Same.Laws.{same_meaning_equal}
 use Rattle.vex_rows.specs.declared.entry.Entry.{Entry}
 use Rattle.vex_rows.specs.Table.{table}
 use Rattle.vex_rows.specs.Row.{Row, Among, rows, exists, opcode_of, choices}
+use Rattle.vex_rows.specs.Row.Lists.{both-parts}
 use Rattle.vex_rows.specs.Entries.{rows_of, has_opcode, entries_with}
 use Rattle.vex_rows.specs.Entries.Laws.{no_row}
 use Rattle.vex_forms.specs.Gives.{gives}
 use Rattle.vex_decode.specs.Spelling.{bytes_of, meant}
-use Rattle.vex_encode.specs.Standard.{candidate, standard}
+use Rattle.vex_encode.specs.Standard.{candidate, is_placed, is_given, standard}
 use Rattle.vex_encode.specs.Canon.{shorter, first_shortest, all_standard, canon}
 use Rattle.vex_encode.specs.Encode.{standard_of, shorter_of, first_of, first, best}
 
@@ -163,11 +164,11 @@ none_given m (row ∷ rows) h = rw (h row (inl refl)) (none_given m rows (λ oth
 -- a row of another opcode gives none
 other_opcode : (m : Meaning) (row : Row) → same_opcode (opcode_of row) m.opcode ≡ false → standard row m ≡ None
 unfolding standard gives same_opcode
-other_opcode m row h = by (same_meaning (meant row (candidate row m)) m) refl where
-  by : (b : Bool) → same_meaning (meant row (candidate row m)) m ≡ b → (if b then Some (bytes_of row (candidate row m)) else None) ≡ None
+other_opcode m row h = by (is_given row m) refl where
+  by : (b : Bool) → is_given row m ≡ b → (if b then Some (bytes_of row (candidate row m)) else None) ≡ None
   by false e = refl
   by true e =
-      let same : opcode_of row ≡ m.opcode = ap (λ (m : Meaning). m.opcode) (same_meaning_equal _ _ e) in
+      let same : opcode_of row ≡ m.opcode = ap (λ (m : Meaning). m.opcode) (same_meaning_equal _ _ (both-parts (is_placed row.kind (candidate row m).place) (same_meaning (meant row (candidate row m)) m) e).1) in
       let yes : (opcode_number (opcode_of row) == opcode_number m.opcode) ≡ true = eq-eqb _ _ (ap opcode_number same) in
       cc
 

@@ -4,19 +4,22 @@ use Rattle.std.specs.List.{list_any}
 use Rattle.std.proofs.Common.{arith, ap, sym, ◌∙◌, inl, inr, subst, subst₂, length-append}
 use Rattle.std.proofs.lemmas.Bool.Decides.{nat_tests}
 use Rattle.x86_opcode.specs.declared.Opcode.{Opcode}
-use Rattle.x86_operand.specs.Kind.{Kind, WithoutModRM, InRegister, InMemory}
+use Rattle.x86_operand.specs.Kind.{Kind, WithoutModRM, InRegister, InMemory, VectorIndexed, is_vector, plain_kind}
 use Rattle.x86_operand.specs.Meaning.{OperandMeaning, register, signed, unsigned, memory, nothing, Meaning}
 use Rattle.x86_operand.specs.Same.{same_meaning}
 use Rattle.x86_operand.specs.Same.Laws.{same_meaning_equal, same_meaning_refl}
-use Rattle.x86_address.specs.Place.{Place, NoPlace, Direct, Based, RipBased, Scaled, Baseless, kind_of, kind_of_target, target, place_bytes}
-use Rattle.x86_address.specs.Shortest.{shortest, x_of, b_of}
-use Rattle.x86_address.proofs.Shortest.{is_place-shortest, kind_of-shortest, kind_of_target-target, shortest-least, x_of-target, b_of-target}
+use Rattle.x86_address.specs.Place.{Place, NoPlace, Direct, Based, RipBased, Scaled, Baseless, IsPlace, IsOfKind, has_sib, kind_of_target, target, place_bytes}
+use Rattle.x86_address.specs.Shortest.{shortest, x_of, b_of, IsSpellable}
+use Rattle.x86_address.proofs.Shortest.{is_place-shortest, kind_of-shortest, kind_of_target-target, sib-shortest, IsSpellable-target, shortest-least, x_of-target, b_of-target}
+use Rattle.x86_address.specs.Place.Laws.{vector_in_memory}
 use Rattle.vex_rows.specs.declared.key.Map.{Map}
 use Rattle.vex_rows.specs.declared.key.Map.TheVariants.{Map0F, Map0F38, Map0F3A}
 use Rattle.vex_rows.specs.Rules.{map_number}
+use Rattle.vex_rows.specs.declared.steps.Check.{Check}
 use Rattle.vex_rows.specs.Steps.{steps}
+use Rattle.vex_rows.specs.Tests.{is_none}
 use Rattle.vex_rows.specs.Groups.{groups}
-use Rattle.vex_rows.specs.Row.{Row, IsRow, opcode_of, Among, group_choices, has_groups, is_group_check, has_imm}
+use Rattle.vex_rows.specs.Row.{Row, IsRow, mark_of, opcode_of, Among, group_choices, has_groups, is_group_check, has_imm}
 use Rattle.vex_rows.specs.Row.Lists.{both-parts, parts-both, from-list_all, from-map}
 use Rattle.vex_rows.specs.Row.Laws.{Chosen, chosen-row}
 use Rattle.vex_rows.specs.Groups.Laws.{small_groups}
@@ -29,8 +32,8 @@ use Rattle.vex_forms.specs.Slots.Laws.{sound_row, v_rule-zero}
 use Rattle.vex_forms.specs.Fields.{Fields}
 use Rattle.vex_decode.specs.Fields.{PrefixForm, C4, C5, FitsTwoBytes, CanSay, prefix_bytes, fits_two_bytes, shortest_form}
 use Rattle.vex_decode.specs.Spelling.{Syntax, imm_bytes, bytes_of, meant, FitsRule, FitsGroup, FitsReg, FitsImm, IsSyntax, SpellsBy}
-use Rattle.vex_decode.proofs.Form.{alone_form}
-use Rattle.vex_encode.specs.Standard.{operand_of_kind, number_of, imm_of, target_of, fields_for, reg_for, candidate, standard}
+use Rattle.vex_forms.specs.FormWalk.Laws.{ordered}
+use Rattle.vex_encode.specs.Standard.{operand_of_kind, number_of, imm_of, target_of, fields_for, reg_for, candidate, is_placed, is_given, standard}
 use Rattle.vex_encode.proofs.Candidate.{first_or_none, no_operand, e_given, map_same, slot_again}
 
 -- a form of prefix is chosen only where it can say the fields
@@ -82,11 +85,13 @@ group_fits : (group : Option ℕ) (g : ℕ) → FitsGroup group (reg_for group g
 group_fits None g = tt
 group_fits (Some group) g = refl
 
-pub kind_asked : (kind : Kind) (operand : OperandMeaning) → kind_of_target (target_of kind operand) ≡ kind
+pub kind_asked : (kind : Kind) (operand : OperandMeaning) → kind_of_target (target_of kind operand) ≡ plain_kind kind
 kind_asked WithoutModRM operand = refl
 kind_asked InRegister operand = refl
 kind_asked InMemory (memory a) = refl
 kind_asked InMemory _ = refl
+kind_asked VectorIndexed (memory a) = refl
+kind_asked VectorIndexed _ = refl
 
 rule_fits : (rule : VvvvRule) (v : ℕ) → (rule ≡ Zero → v ≡ 0) → FitsRule rule (v % 16)
 rule_fits Named v h = tt
@@ -134,20 +139,43 @@ group_none true gs group h m = cc
 group_none false gs group h (inl e) = e
 group_none false gs group h (inr e) = absurd e
 
+-- so that it checks none
+no_group_check : (checks : List Check) → is_none checks ≡ true → list_any is_group_check checks ≡ false
+no_group_check [] h = refl
+no_group_check (c ∷ checks) h = cc
+
+alone_checks : (modrm p : Bool) (checks : List Check) (q r : Bool) → (if modrm then p else is_none checks && q && r) ≡ true → modrm ≡ false → is_none checks ≡ true
+alone_checks true p checks q r h e = cc
+alone_checks false p checks q r h e = (both-parts (is_none checks) q (both-parts (is_none checks && q) r h).0).0
+
 group_alone : (row : Row) → Chosen row → (steps row.entry.form).modrm ≡ false → row.group ≡ None
 unfolding has_groups
 group_alone row chosen alone =
-    let none : list_any is_group_check (steps row.entry.form).after_modrm ≡ false = ap (list_any is_group_check) (alone_form row.entry alone).second in
+    let none : list_any is_group_check (steps row.entry.form).after_modrm ≡ false =
+    no_group_check (steps row.entry.form).after_modrm (alone_checks _ _ (steps row.entry.form).after_modrm _ _ (ordered row.entry).rest alone) in
     group_none (has_groups row.entry.form) (groups row.entry.form row.l) row.group none chosen.group
+
+-- where the index is a vector register there is a SIB byte
+with_sib : (kind : Kind) (place : Place) → is_placed kind place ≡ true → is_vector kind ≡ true → has_sib place ≡ true
+with_sib kind place placed vector = by (is_vector kind) vector placed where
+  by : (v : Bool) → v ≡ true → (not v || has_sib place) ≡ true → has_sib place ≡ true
+  by true e h = h
+  by false e h = cc
+
+pub placed_with : (kind : Kind) (place : Place) → (is_vector kind ≡ true → has_sib place ≡ true) → is_placed kind place ≡ true
+placed_with kind place sib = by (is_vector kind) sib where
+  by : (v : Bool) → (v ≡ true → has_sib place ≡ true) → (not v || has_sib place) ≡ true
+  by true h = h refl
+  by false h = refl
 
 module _ (row : Row) (m : Meaning) (is_row : IsRow row) where
   chosen : Chosen row
   chosen = chosen-row row is_row
 
-  -- the parts that are put together are those of a spelling by the row
-  pub candidate_is : IsSyntax row (candidate row m)
+  -- the parts that are put together are those of a spelling by the row, where their place is of its kind
+  pub candidate_is : is_placed row.kind (candidate row m).place ≡ true → IsSyntax row (candidate row m)
   unfolding candidate slots has_imm
-  candidate_is =
+  candidate_is placed =
       let operands = m.operands in
       let g = number_of (operand_of_kind names_g (slots row) operands) in
       let v = number_of (operand_of_kind names_v (slots row) operands) in
@@ -161,7 +189,10 @@ module _ (row : Row) (m : Meaning) (is_row : IsRow row) where
         l = refl;
         reg = reg_fits (steps row.entry.form).modrm row row.group g chosen.group (λ alone. (ap number_of (no_operand names_g (slots row) operands (or_false _ _ sound.alone alone)), group_alone row chosen alone));
         place = is_place-shortest e;
-        kind = kind_of-shortest e ∙ kind_asked row.kind (operand_of_kind names_e (slots row) operands);
+        kind = record {
+          plain = kind_of-shortest e ∙ kind_asked row.kind (operand_of_kind names_e (slots row) operands);
+          sib = with_sib row.kind (shortest e) placed;
+        };
         group = group_fits row.group g;
         v = rule_fits (v_rule row) v (λ zero. ap number_of (no_operand names_v (slots row) operands (v_rule-zero row zero).0));
         imm = imm_fits (steps row.entry.form).imm (operand_of_kind names_imm (slots row) operands) (λ none. no_operand names_imm (slots row) operands (no_immediates (slots row) (few_by _ _ sound.immediates none)));
@@ -183,54 +214,84 @@ means_again row s is_row is =
     let again = slot_again (index_bank row) (slots row) row.kind row.group s.fields.r s.fields.v s.reg s.place s.fields.x s.fields.b s.imm
     (few_at_most (steps row.entry.form).imm _ sound.immediates) is.prefix.r is.prefix.v (reg_below _ _ is.reg) (imm_byte _ _ is.imm) is.place is.kind is.group in
     let operands = map_same _ _ (slots row) again in
-    λ i. record { evex = false; opcode = opcode_of row; operands = operands i; size = size_of row }
+    λ i. record { evex = mark_of row; opcode = opcode_of row; operands = operands i; size = size_of row }
+
+-- what the parts that are put together ask of the place of E: what was read, or nothing
+asked : (row : Row) (s : Syntax) → IsSyntax row s →
+    let operands = map (slot_operand (index_bank row) s.fields.r s.fields.v s.reg (target (is_vector row.kind) s.place s.fields.x s.fields.b) s.imm) (slots row) in
+    (target_of row.kind (operand_of_kind names_e (slots row) operands) ≡ target (is_vector row.kind) s.place s.fields.x s.fields.b) ⊎ (operand_of_kind names_e (slots row) operands ≡ nothing)
+asked row s is =
+    elim (first_or_none names_e (slot_operand (index_bank row) s.fields.r s.fields.v s.reg (target (is_vector row.kind) s.place s.fields.x s.fields.b) s.imm) (slots row)) [
+      | inl first ↦ inl (ap (target_of row.kind) first.operand ∙ e_given (index_bank row) s.fields.r s.fields.v s.reg (target (is_vector row.kind) s.place s.fields.x s.fields.b) s.imm row.kind first.slot first.passes (kind_of_target-target (is_vector row.kind) s.place s.fields.x s.fields.b ∙ is.kind.plain))
+      | inr none ↦ inr none
+    ]
+
+-- nothing is asked for by a place with SIB, where the index is a vector register
+pub least_sib : (kind : Kind) → is_vector kind ≡ true → has_sib (shortest (target_of kind nothing)) ≡ true
+unfolding shortest
+least_sib WithoutModRM vector = cc
+least_sib InRegister vector = cc
+least_sib InMemory vector = cc
+least_sib VectorIndexed vector = refl
+
+-- and what was read has one
+asked_sib : (kind : Kind) (place : Place) (x b : Bool) → IsPlace place → IsOfKind kind place → is_vector kind ≡ true → has_sib (shortest (target (is_vector kind) place x b)) ≡ true
+asked_sib kind place x b ok is vector =
+    sib-shortest (target (is_vector kind) place x b) (kind_of_target-target (is_vector kind) place x b ∙ is.plain ∙ vector_in_memory kind vector)
+    (subst (λ v. IsSpellable v (target (is_vector kind) place x b)) vector (IsSpellable-target (is_vector kind) place x b ok is.sib))
+
+-- so the place of the parts that are put together is of the row's kind
+placed_again : (row : Row) (s : Syntax) → IsSyntax row s → is_placed row.kind (candidate row (meant row s)).place ≡ true
+unfolding candidate gives
+placed_again row s is = placed_with row.kind _ (λ vector.
+    elim (asked row s is) [
+      | inl e ↦ subst (λ e. has_sib (shortest e) ≡ true) (sym e) (asked_sib row.kind s.place s.fields.x s.fields.b is.place is.kind vector)
+      | inr none ↦ subst (λ o. has_sib (shortest (target_of row.kind o)) ≡ true) (sym none) (least_sib row.kind vector)
+    ])
 
 module _ (row : Row) (m : Meaning) (is_row : IsRow row) where
   -- they mean it where anything of the row does
   pub candidate_means : (bytes : List ℕ) → SpellsBy bytes m row → meant row (candidate row m) ≡ m
   candidate_means bytes by = subst (λ n. meant row (candidate row n) ≡ n) (sym by.means) (means_again row by.parts is_row by.fits)
 
+  given_there : (bytes : List ℕ) → SpellsBy bytes m row → is_given row m ≡ true
+  given_there bytes by = parts-both _ _ (subst (λ n. is_placed row.kind (candidate row n).place ≡ true) (sym by.means) (placed_again row by.parts by.fits)) (ap (λ n. same_meaning n m) (candidate_means bytes by) ∙ same_meaning_refl m)
+
   -- where something of the row spells a meaning, its standard bytes are there
   pub standard_there : (bytes : List ℕ) → SpellsBy bytes m row → standard row m ≡ Some (bytes_of row (candidate row m))
   unfolding standard
-  standard_there bytes by = rw (ap (λ n. same_meaning n m) (candidate_means bytes by) ∙ same_meaning_refl m) refl
+  standard_there bytes by = rw (given_there bytes by) refl
 
   -- standard bytes spell the meaning by the row
   pub standard_spells : (bytes : List ℕ) → standard row m ≡ Some bytes → SpellsBy bytes m row
   unfolding standard
-  standard_spells bytes e = by (same_meaning (meant row (candidate row m)) m) refl e where
-    by : (b : Bool) → same_meaning (meant row (candidate row m)) m ≡ b → (if b then Some (bytes_of row (candidate row m)) else None) ≡ Some bytes → SpellsBy bytes m row
+  standard_spells bytes e = by (is_given row m) refl e where
+    by : (b : Bool) → is_given row m ≡ b → (if b then Some (bytes_of row (candidate row m)) else None) ≡ Some bytes → SpellsBy bytes m row
     by true h e =
         let same : bytes_of row (candidate row m) ≡ bytes = cc in
-        record { parts = candidate row m; fits = candidate_is row m is_row; written = sym same; means = sym (same_meaning_equal _ _ h) }
+        let both = both-parts (is_placed row.kind (candidate row m).place) (same_meaning (meant row (candidate row m)) m) h in
+        record { parts = candidate row m; fits = candidate_is row m is_row both.0; written = sym same; means = sym (same_meaning_equal _ _ both.1) }
     by false h e = cc
-
--- what the parts that are put together ask of the place of E: what was read, or nothing
-asked : (row : Row) (s : Syntax) → IsSyntax row s →
-    let operands = map (slot_operand (index_bank row) s.fields.r s.fields.v s.reg (target s.place s.fields.x s.fields.b) s.imm) (slots row) in
-    (target_of row.kind (operand_of_kind names_e (slots row) operands) ≡ target s.place s.fields.x s.fields.b) ⊎ (operand_of_kind names_e (slots row) operands ≡ nothing)
-asked row s is =
-    elim (first_or_none names_e (slot_operand (index_bank row) s.fields.r s.fields.v s.reg (target s.place s.fields.x s.fields.b) s.imm) (slots row)) [
-      | inl first ↦ inl (ap (target_of row.kind) first.operand ∙ e_given (index_bank row) s.fields.r s.fields.v s.reg (target s.place s.fields.x s.fields.b) s.imm row.kind first.slot first.passes (kind_of_target-target s.place s.fields.x s.fields.b ∙ is.kind))
-      | inr none ↦ inr none
-    ]
 
 -- what is asked where there is no operand: the least place, and neither X nor B
 no_x : (kind : Kind) → x_of (target_of kind nothing) ≡ false
 no_x WithoutModRM = refl
 no_x InRegister = refl
 no_x InMemory = refl
+no_x VectorIndexed = refl
 
 no_b : (kind : Kind) → b_of (target_of kind nothing) ≡ false
 no_b WithoutModRM = refl
 no_b InRegister = refl
 no_b InMemory = refl
+no_b VectorIndexed = refl
 
-least_place : (kind : Kind) (reg reg' : ℕ) (p : Place) → kind_of p ≡ kind → length (place_bytes reg (shortest (target_of kind nothing))) ≤ length (place_bytes reg' p)
+least_place : (kind : Kind) (reg reg' : ℕ) (p : Place) → IsOfKind kind p → length (place_bytes reg (shortest (target_of kind nothing))) ≤ length (place_bytes reg' p)
 unfolding shortest
 least_place WithoutModRM reg reg' p h = omega arith
-least_place InRegister reg reg' NoPlace h = cc
-least_place InMemory reg reg' NoPlace h = cc
+least_place InRegister reg reg' NoPlace h = cc (h.plain)
+least_place InMemory reg reg' NoPlace h = cc (h.plain)
+least_place VectorIndexed reg reg' NoPlace h = cc (h.plain)
 least_place InRegister reg reg' (Direct rm) h = omega arith
 least_place InRegister reg reg' (Based rm d) h = omega arith
 least_place InRegister reg reg' (RipBased n) h = omega arith
@@ -241,6 +302,11 @@ least_place InMemory reg reg' (Based rm d) h = omega arith
 least_place InMemory reg reg' (RipBased n) h = omega arith
 least_place InMemory reg reg' (Scaled k i j d) h = omega arith
 least_place InMemory reg reg' (Baseless k i n) h = omega arith
+least_place VectorIndexed reg reg' (Direct rm) h = cc (h.plain)
+least_place VectorIndexed reg reg' (Based rm d) h = cc (h.sib refl)
+least_place VectorIndexed reg reg' (RipBased n) h = cc (h.sib refl)
+least_place VectorIndexed reg reg' (Scaled k i j d) h = omega arith
+least_place VectorIndexed reg reg' (Baseless k i n) h = omega arith
 
 true_or_false : (b c : Bool) → (b ≡ true → c ≡ true) → c ≡ false → b ≡ false
 true_or_false true c h e = cc (h refl)
@@ -278,21 +344,21 @@ module _ (row : Row) (s : Syntax) (is_row : IsRow row) (is : IsSyntax row s) whe
   place_no_longer =
       let reg = (candidate row (meant row s)).reg in
       elim (asked row s is) [
-        | inl e ↦ subst (λ e. length (place_bytes reg (shortest e)) ≤ length (place_bytes s.reg s.place)) (sym e) (shortest-least s.place s.fields.x s.fields.b reg s.reg is.place)
+        | inl e ↦ subst (λ e. length (place_bytes reg (shortest e)) ≤ length (place_bytes s.reg s.place)) (sym e) (shortest-least (is_vector row.kind) s.place s.fields.x s.fields.b reg s.reg is.place)
         | inr none ↦ subst (λ o. length (place_bytes reg (shortest (target_of row.kind o))) ≤ length (place_bytes s.reg s.place)) (sym none) (least_place row.kind reg s.reg s.place is.kind)
       ]
 
   x_false : s.fields.x ≡ false → (candidate row (meant row s)).fields.x ≡ false
   unfolding candidate gives
   x_false none = elim (asked row s is) [
-    | inl e ↦ ap x_of e ∙ true_or_false (x_of (target s.place s.fields.x s.fields.b)) s.fields.x (x_of-target s.place s.fields.x s.fields.b is.place) none
+    | inl e ↦ ap x_of e ∙ true_or_false (x_of (target (is_vector row.kind) s.place s.fields.x s.fields.b)) s.fields.x (x_of-target (is_vector row.kind) s.place s.fields.x s.fields.b is.place) none
     | inr e ↦ ap (λ o. x_of (target_of row.kind o)) e ∙ no_x row.kind
   ]
 
   b_false : s.fields.b ≡ false → (candidate row (meant row s)).fields.b ≡ false
   unfolding candidate gives
   b_false none = elim (asked row s is) [
-    | inl e ↦ ap b_of e ∙ true_or_false (b_of (target s.place s.fields.x s.fields.b)) s.fields.b (b_of-target s.place s.fields.x s.fields.b is.place) none
+    | inl e ↦ ap b_of e ∙ true_or_false (b_of (target (is_vector row.kind) s.place s.fields.x s.fields.b)) s.fields.b (b_of-target (is_vector row.kind) s.place s.fields.x s.fields.b is.place) none
     | inr e ↦ ap (λ o. b_of (target_of row.kind o)) e ∙ no_b row.kind
   ]
 

@@ -2,14 +2,15 @@
 use Rattle.std.specs.Prelude.{◌≡◌, refl, ℕ, ◌/◌, ◌%◌, ◌<◌, ◌++◌, ◌∷◌, Bool, true, false, ◌==◌, Option, Some, None, unwrap_or, if◌then◌else◌}
 use Rattle.std.specs.Option.{ForSome}
 use Rattle.std.proofs.Common.{zero, suc, arith, ap, ap₂, sym, ◌∙◌, subst}
-use Rattle.x86_operand.specs.Kind.{Kind, WithoutModRM, InRegister, InMemory}
+use Rattle.x86_operand.specs.Kind.{Kind, WithoutModRM, InRegister, memory_kind}
 use Rattle.x86_operand.specs.Meaning.{Meaning}
 use Rattle.x86_address.specs.Bytes.{bit}
 use Rattle.x86_address.specs.Place.{Place, NoPlace, Direct, Based, RipBased, Scaled, Baseless, place_bytes, tail_of}
 use Rattle.x86_address.specs.Shortest.{shortest, x_of, b_of}
 use Rattle.x86_address.specs.declared.encode.AddressBytes.{AddressBytes}
 use Rattle.vex_rows.specs.declared.key.Prefix.{Prefix}
-use Rattle.vex_rows.specs.Row.{has_groups}
+use Rattle.vex_rows.specs.Row.{has_groups, is_memory}
+use Rattle.vex_rows.specs.FormRows.{gathers}
 use Rattle.vex_rows.specs.Steps.{steps}
 use Rattle.vex_forms.specs.declared.operand_fields.OperandFields.{OperandFields}
 use Rattle.vex_forms.specs.declared.row_layout.RowLayout.{RowLayout}
@@ -49,9 +50,9 @@ reg_added reg (Scaled k i j d) = ap (λ n. n ∷ tail_of (Scaled k i j d)) (omeg
 reg_added reg (Baseless k i n) = ap (λ m. m ∷ tail_of (Baseless k i n)) (omega arith)
 
 -- a row in memory has a ModRM byte
-memory_modrm : (modrm memory : Bool) → (if modrm then (if memory then InMemory else InRegister) else WithoutModRM) ≡ InMemory → modrm ≡ true
-memory_modrm true memory h = refl
-memory_modrm false memory h = cc
+memory_modrm : (vector modrm memory : Bool) → is_memory (if modrm then (if memory then memory_kind vector else InRegister) else WithoutModRM) ≡ true → modrm ≡ true
+memory_modrm vector true memory h = refl
+memory_modrm vector false memory h = cc
 
 group_small : (has : Bool) (group n : ℕ) → group < 8 → (if has then Some group else None) ≡ Some n → n < 8
 group_small true group n h e = let same : group ≡ n = cc in omega (arith, same)
@@ -67,7 +68,7 @@ module _ (choice : RowChoice) (layout : RowLayout) (is : IsLayout (row_chosen ch
   unfolding slots
   layout_placed kind m k gives =
       let row = row_chosen choice in
-      let fits = placed row.kind _ (slots row) m.operands gives.operands (λ memory. with_e row.entry.form row (memory_modrm (steps choice.entry.form).modrm choice.memory memory)) in
+      let fits = placed row.kind _ (slots row) m.operands gives.operands (λ memory. with_e row.entry.form row (memory_modrm (gathers choice.entry.form) (steps choice.entry.form).modrm choice.memory memory)) in
       subst (λ kind. IsPlaced kind layout.index_bank (operand_at_e layout m)) k
       (rw (is.index_bank, is.slots) fits)
 

@@ -1,7 +1,7 @@
 -- Private functions alone cite what stands here.
-use Rattle.std.specs.Prelude.{◌≡◌, ℕ, ◌+◌, ◌*◌, ◌/◌, ◌%◌, ◌<◌, ◌==◌, Bool, List, [], ◌∷◌, unwrap_or, if◌then◌else◌}
+use Rattle.std.specs.Prelude.{◌≡◌, ℕ, ◌+◌, ◌*◌, ◌/◌, ◌%◌, ◌<◌, ◌==◌, Bool, true, false, List, [], ◌∷◌, unwrap_or, if◌then◌else◌}
 use Rattle.x86_operand.specs.declared.register.RegisterBank.{RegisterBank}
-use Rattle.x86_operand.specs.Kind.{Kind, WithoutModRM, InRegister, InMemory}
+use Rattle.x86_operand.specs.Kind.{Kind, WithoutModRM, InRegister, InMemory, VectorIndexed, memory_kind}
 use Rattle.x86_operand.specs.Meaning.{OperandMeaning, register, memory, Meaning}
 use Rattle.x86_address.specs.Place.{Target}
 use Rattle.x86_operand.specs.declared.register.RegisterBank.TheVariants.{Q}
@@ -34,9 +34,10 @@ names of_kind.Immediate slot = names_imm slot
 abbrev pub row_chosen : RowChoice → Row
 row_chosen choice = row_for choice.entry choice.w choice.l choice.memory choice.group
 
--- the kind of a row's operand E, by whether it has a ModRM byte and whether that operand is in memory
-abbrev pub kind_by : Bool → Bool → Kind
-kind_by modrm in_memory = if modrm then (if in_memory then InMemory else InRegister) else WithoutModRM
+-- the kind of a row's operand E, by whether the index of its address is a vector register, whether it has a ModRM byte
+-- and whether that operand is in memory
+abbrev pub kind_by : Bool → Bool → Bool → Kind
+kind_by vector modrm in_memory = if modrm then (if in_memory then memory_kind vector else InRegister) else WithoutModRM
 
 -- the number that the operand at the slot of the field reg has
 abbrev pub g_of : RowLayout → Meaning → ℕ
@@ -63,10 +64,10 @@ abbrev pub IsRegisterOf : RegisterBank → OperandMeaning → Type 0
 IsRegisterOf bank (register reg) = RegisterFits bank reg
 IsRegisterOf bank _ = ⊥
 
--- an operand is an address that fits a row with an index of this bank
-abbrev pub IsAddressOf : RegisterBank → OperandMeaning → Type 0
-IsAddressOf bank (memory address) = AddressFits bank address
-IsAddressOf bank _ = ⊥
+-- an operand is an address that fits a row with an index of this bank, which is a vector register or not
+abbrev pub IsAddressOf : Bool → RegisterBank → OperandMeaning → Type 0
+IsAddressOf vector bank (memory address) = AddressFits vector bank address
+IsAddressOf vector bank _ = ⊥
 
 -- an operand is an address
 abbrev pub IsAddress : OperandMeaning → Type 0
@@ -77,7 +78,8 @@ IsAddress _ = ⊥
 abbrev pub IsPlaced : Kind → RegisterBank → OperandMeaning → Type 0
 IsPlaced WithoutModRM bank operand = Unit {0}
 IsPlaced InRegister bank operand = Unit {0}
-IsPlaced InMemory bank operand = IsAddressOf bank operand
+IsPlaced InMemory bank operand = IsAddressOf false bank operand
+IsPlaced VectorIndexed bank operand = IsAddressOf true bank operand
 
 -- the address is that of the operand, with its index in bank Q
 abbrev pub GeneralAddress : OperandMeaning → Address → Type 0
@@ -90,10 +92,10 @@ pub record AsksFor (e : OperandE) (asked : Target) : Type 0 where
   pub x : x_of (target_seen e) ≡ x_of asked
   pub b : b_of (target_seen e) ≡ b_of asked
 
--- bytes can name the operand E
-abbrev pub CanBePlaced : OperandE → Type 0
-CanBePlaced (Memory address) = BaseFits address.base address.index × IndexFits address.index
-CanBePlaced _ = Unit {0}
+-- bytes can name the operand E, by whether the index of its address is a vector register
+abbrev pub CanBePlaced : Bool → OperandE → Type 0
+CanBePlaced vector (Memory address) = BaseFits address.base address.index × IndexFits vector address.index
+CanBePlaced vector _ = Unit {0}
 
 -- the field reg can be added to the first byte
 abbrev pub HeadFits : List ℕ → Type 0

@@ -1,15 +1,16 @@
 -- When a row can give a meaning: what each slot asks of its operand.
-use Rattle.std.specs.Prelude.{◌≡◌, ◌≢◌, ◌⊎◌, ◌≤◌, FitsSigned, false, List, [], ◌∷◌, Option, Some, None}
+use Rattle.std.specs.Prelude.{◌≡◌, ◌⊎◌, ◌≤◌, FitsSigned, Bool, true, false, List, [], ◌∷◌, Option, Some, None}
 use Rattle.std.specs.Int.{w8, w32}
 use Rattle.x86_operand.specs.declared.register.RegisterBank.{RegisterBank}
 use Rattle.x86_operand.specs.declared.register.RegisterBank.TheVariants.{Q, RIP}
 use Rattle.x86_operand.specs.declared.address.Address.{Address}
 use Rattle.x86_operand.specs.declared.address.Index.{Index}
 use Rattle.x86_operand.specs.Register.{Register}
-use Rattle.x86_operand.specs.Kind.{Kind, InRegister, InMemory}
+use Rattle.x86_operand.specs.Kind.{Kind, InRegister, InMemory, VectorIndexed}
 use Rattle.x86_operand.specs.Meaning.{OperandMeaning, register, signed, unsigned, memory, Meaning}
+use Rattle.x86_address.specs.Shortest.{MayBeIndex}
 use Rattle.x86_address.specs.Spells.{IsScale}
-use Rattle.vex_rows.specs.Row.{Row, opcode_of}
+use Rattle.vex_rows.specs.Row.{Row, mark_of, opcode_of}
 use Rattle.vex_forms.specs.declared.slot.Slot.{Slot}
 use Rattle.vex_forms.specs.declared.slot.Slot.TheVariants.{G, V, E, U8, I8, R4}
 use Rattle.vex_forms.specs.Slots.{slots, index_bank, size_of}
@@ -28,21 +29,24 @@ abbrev pub SlotBaseFits : Option Register → Option Index → Type 0
 SlotBaseFits None index = Unit {0}
 SlotBaseFits (Some base) index = RegisterFits Q base ⊎ ((base ≡ instruction_pointer) × (index ≡ None))
 
--- there is no index, or one of this bank, whose number isn't 4, with a scale of 1, 2, 4 or 8
-abbrev pub SlotIndexFits : RegisterBank → Option Index → Type 0
-SlotIndexFits bank None = Unit {0}
-SlotIndexFits bank (Some index) = RegisterFits bank index.reg × (index.reg.num ≢ 4) × IsScale index.scale
+-- there is no index, but where a vector register has to be; or there is one of this bank, whose number is 4 only of a
+-- vector register, with a scale of 1, 2, 4 or 8
+abbrev pub SlotIndexFits : Bool → RegisterBank → Option Index → Type 0
+SlotIndexFits vector bank None = vector ≡ false
+SlotIndexFits vector bank (Some index) = RegisterFits bank index.reg × MayBeIndex vector index.reg.num × IsScale index.scale
 
--- base and index fit, and the displacement has 32 bits
-pub record AddressFits (index_bank : RegisterBank) (address : Address) : Type 0 where
+-- base and index fit, and the displacement has 32 bits: where the index is a vector register it is there, so that the
+-- base isn't the instruction pointer
+pub record AddressFits (vector : Bool) (index_bank : RegisterBank) (address : Address) : Type 0 where
   pub base : SlotBaseFits address.base address.index
-  pub index : SlotIndexFits index_bank address.index
+  pub index : SlotIndexFits vector index_bank address.index
   pub disp : FitsSigned w32 address.disp
 
 -- an operand fits the slot E: a register in a register row, an address in a memory row
 abbrev pub PlacedFits : Kind → RegisterBank → RegisterBank → OperandMeaning → Type 0
 PlacedFits InRegister index_bank bank (register reg) = RegisterFits bank reg
-PlacedFits InMemory index_bank bank (memory address) = AddressFits index_bank address
+PlacedFits InMemory index_bank bank (memory address) = AddressFits false index_bank address
+PlacedFits VectorIndexed index_bank bank (memory address) = AddressFits true index_bank address
 PlacedFits _ index_bank bank _ = ⊥
 
 -- an operand fits a slot of a row of this kind and this index bank: a register of the slot's bank, an address, or an
@@ -63,10 +67,9 @@ OperandsFit kind index_bank (slot ∷ slots) (operand ∷ operands) =
     OperandFits kind index_bank slot operand × OperandsFit kind index_bank slots operands
 OperandsFit kind index_bank _ _ = ⊥
 
--- the row can give the meaning: the meaning isn't marked as EVEX, has the row's opcode and size, and its operands fit
--- the row's slots
+-- the row can give the meaning: the meaning has the row's mark, opcode and size, and its operands fit the row's slots
 pub record CanGive (row : Row) (m : Meaning) : Type 0 where
-  pub mark : m.evex ≡ false
+  pub mark : m.evex ≡ mark_of row
   pub opcode : m.opcode ≡ opcode_of row
   pub size : m.size ≡ size_of row
   pub operands : OperandsFit row.kind (index_bank row) (slots row) m.operands

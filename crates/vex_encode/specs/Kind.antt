@@ -1,5 +1,5 @@
 -- Private functions alone cite what stands here.
-use Rattle.x86_operand.specs.Kind.{Kind, WithoutModRM, InRegister, InMemory}
+use Rattle.x86_operand.specs.Kind.{Kind, WithoutModRM, InRegister, InMemory, VectorIndexed}
 use Rattle.vex_encode.specs.declared.kind.Kind.{Kind as CodeKind}
 use Rattle.vex_encode.specs.declared.kind.Kind.TheVariants as code
 
@@ -8,3 +8,4 @@ abbrev pub kind_seen : CodeKind → Kind
 kind_seen code.WithoutModRM = WithoutModRM
 kind_seen code.Register = InRegister
 kind_seen code.Memory = InMemory
+kind_seen code.Vector = VectorIndexed

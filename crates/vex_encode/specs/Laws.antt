@@ -1,5 +1,5 @@
 -- The laws of canonical bytes.
-use Rattle.std.specs.Prelude.{◌≡◌, ◌↔◌, ℕ, ◌≤◌, Bool, false, List, length, Some, None, IsSome, IsTrue}
+use Rattle.std.specs.Prelude.{◌≡◌, ◌↔◌, ℕ, ◌≤◌, Bool, List, length, Some, None, IsSome, IsTrue}
 use Rattle.x86_operand.specs.Meaning.{Meaning}
 use Rattle.x86_permit.specs.Permission.{permits}
 use Rattle.vex_rows.specs.Row.{Row, IsRow}
@@ -25,10 +25,10 @@ pub record HasShortest (m : Meaning) (bytes : List ℕ) : Type 0 where
 abbrev pub Shortest : Type 0
 Shortest = (bytes : List ℕ) (m : Meaning) → Spells bytes m → HasShortest m bytes
 
--- the canonical bytes of a meaning whose opcode is permitted are not blocked
+-- the canonical bytes of a meaning whose mark and opcode are permitted are not blocked
 abbrev pub CanonicalNotBlocked : Type 0
 CanonicalNotBlocked =
-    (settings : List Bool) (m : Meaning) (c : List ℕ) → IsTrue (permits settings false m.opcode) → canon m ≡ Some c
+    (settings : List Bool) (m : Meaning) (c : List ℕ) → IsTrue (permits settings m.evex m.opcode) → canon m ≡ Some c
     → blocked settings c ≡ None
 
 -- the canonical bytes of a meaning spell that meaning

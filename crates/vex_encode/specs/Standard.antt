@@ -1,9 +1,9 @@
-use Rattle.std.specs.Prelude.{pos, ℕ, ◌*◌, ◌/◌, ◌%◌, Bool, List, [], ◌∷◌, Option, Some, None, if◌then◌else◌}
+use Rattle.std.specs.Prelude.{pos, ℕ, ◌*◌, ◌/◌, ◌%◌, Bool, not, ◌&&◌, ◌||◌, List, [], ◌∷◌, Option, Some, None, if◌then◌else◌}
 use Rattle.std.specs.Int.{cast_unsigned, w8}
-use Rattle.x86_operand.specs.Kind.{Kind, WithoutModRM, InRegister, InMemory}
+use Rattle.x86_operand.specs.Kind.{Kind, WithoutModRM, InRegister, InMemory, VectorIndexed, is_vector}
 use Rattle.x86_operand.specs.Meaning.{OperandMeaning, register, signed, unsigned, memory, nothing, Meaning}
 use Rattle.x86_operand.specs.Same.{same_meaning}
-use Rattle.x86_address.specs.Place.{Target, NoTarget, Number, At, Numbered}
+use Rattle.x86_address.specs.Place.{Place, has_sib, Target, NoTarget, Number, At, Numbered}
 use Rattle.x86_address.specs.Shortest.{shortest, plain, x_of, b_of}
 use Rattle.vex_rows.specs.Row.{Row}
 use Rattle.vex_forms.specs.declared.slot.Slot.{Slot}
@@ -40,6 +40,8 @@ target_of WithoutModRM operand = NoTarget
 target_of InRegister operand = Number (number_of operand)
 target_of InMemory (memory address) = At (plain address)
 target_of InMemory _ = At (record { base = Numbered 0; index = None; disp = pos 0 })
+target_of VectorIndexed (memory address) = At (plain address)
+target_of VectorIndexed _ = At (record { base = Numbered 0; index = Some (0, 1); disp = pos 0 })
 
 -- the fields of the prefix: map, implied prefix, W and L are the row's, and R, X, B and vvvv are what the operands
 -- demand
@@ -79,6 +81,15 @@ candidate row m =
     (target_of row.kind (operand_of_kind names_e (slots row) m.operands))
     (imm_of (operand_of_kind names_imm (slots row) m.operands))
 
+-- whether a place can be that of the kind: where the index is a vector register there is a SIB byte (Intel SDM volume 2,
+-- section 2.3.12)
+abbrev pub is_placed : Kind → Place → Bool
+is_placed kind place = not (is_vector kind) || has_sib place
+
+-- whether the parts that are put together are a spelling by the row, and mean the meaning
+abbrev pub is_given : Row → Meaning → Bool
+is_given row m = is_placed row.kind (candidate row m).place && same_meaning (meant row (candidate row m)) m
+
 -- the standard bytes of a meaning by a row; none where the row can't give it, which `CanGive` says by conditions
 unfoldable pub standard : Row → Meaning → Option (List ℕ)
-standard row m = if same_meaning (meant row (candidate row m)) m then Some (bytes_of row (candidate row m)) else None
+standard row m = if is_given row m then Some (bytes_of row (candidate row m)) else None

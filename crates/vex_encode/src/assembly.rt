@@ -1,7 +1,8 @@
 //! Putting together the numbers that the operands of an instruction ask for in a row.
 
-ghost use Rattle.std.specs.Prelude.{◌≡◌, ◌≤◌, ◌<◌, length};
+ghost use Rattle.std.specs.Prelude.{◌≡◌, ◌≤◌, ◌<◌, Bool, length};
 ghost use Rattle.std.specs.Option.{ForSome};
+ghost use Rattle.x86_operand.specs.Kind.{is_vector};
 ghost use Rattle.x86_operand.specs.Meaning.{memory, operand_meaning};
 ghost use Rattle.x86_operand.specs.declared.register.RegisterBank.{RegisterBank};
 ghost use Rattle.x86_operand.specs.declared.register.RegisterBank.TheVariants.{Q};
@@ -35,7 +36,7 @@ fn address_of(operand: Operand) -> Address
 
 /// The index with its register in bank `Q`.
 fn general_index(index: Option<Index>) -> Option<Index>
-    requires { (bank : RegisterBank) × SlotIndexFits bank index }
+    requires { (vector : Bool) × (bank : RegisterBank) × SlotIndexFits vector bank index }
     ensures { result ≡ index_register Q (plain_index index) }
 {
     match index {
@@ -49,7 +50,7 @@ fn general_index(index: Option<Index>) -> Option<Index>
 
 /// The address with its index in bank `Q`, whichever bank the row says that it is of.
 fn general_address(address: Address) -> Address
-    requires { (bank : RegisterBank) × AddressFits bank address }
+    requires { (vector : Bool) × (bank : RegisterBank) × AddressFits vector bank address }
     ensures { result ≡ in_banks Q (plain address) }
 {
     Address {
@@ -59,11 +60,11 @@ fn general_address(address: Address) -> Address
     }
 }
 
-/// The address at the slot E, with its index in bank `Q`.
-fn address_at_e(layout: &RowLayout, instruction: &Instruction) -> Address
-    requires { IsAddressOf layout.now.index_bank (operand_at_e layout.now instruction.now.meaning) }
+/// The address at the slot E, with its index in bank `Q`. `vector` says whether that is a vector register.
+fn address_at_e(vector: bool, layout: &RowLayout, instruction: &Instruction) -> Address
+    requires { IsAddressOf vector layout.now.index_bank (operand_at_e layout.now instruction.now.meaning) }
     ensures address { GeneralAddress (operand_at_e layout.now instruction.now.meaning) result }
-    ensures bytes { BaseFits result.base result.index × IndexFits result.index }
+    ensures bytes { BaseFits result.base result.index × IndexFits vector result.index }
 {
     let operand = operand_of(SlotKind::E, layout.slots.as_slice(), instruction);
     general_address(address_of(operand))
@@ -73,7 +74,7 @@ fn address_at_e(layout: &RowLayout, instruction: &Instruction) -> Address
 fn operand_e(kind: Kind, layout: &RowLayout, instruction: &Instruction) -> OperandE
     requires { IsPlaced (kind_seen kind) layout.now.index_bank (operand_at_e layout.now instruction.now.meaning) }
     ensures asks { AsksFor result (asked_of (kind_seen kind) layout.now instruction.now.meaning) }
-    ensures placed { CanBePlaced result }
+    ensures placed { CanBePlaced (is_vector (kind_seen kind)) result }
     ensures number { NumberFits result }
     ensures banks { BanksFit result }
 {
@@ -83,7 +84,8 @@ fn operand_e(kind: Kind, layout: &RowLayout, instruction: &Instruction) -> Opera
             let operand = operand_of(SlotKind::E, layout.slots.as_slice(), instruction);
             OperandE::Register(number_of(operand) % 16)
         }
-        Kind::Memory => OperandE::Memory(address_at_e(layout, instruction)),
+        Kind::Memory => OperandE::Memory(address_at_e(false, layout, instruction)),
+        Kind::Vector => OperandE::Memory(address_at_e(true, layout, instruction)),
     }
 }
 
@@ -92,7 +94,7 @@ pub fn operand_fields(kind: Kind, layout: &RowLayout, instruction: &Instruction)
     requires group { ForSome layout.now.group (λ group. group < 8) }
     requires e { IsPlaced (kind_seen kind) layout.now.index_bank (operand_at_e layout.now instruction.now.meaning) }
     ensures numbers { HasNumbers (kind_seen kind) layout.now instruction.now.meaning result }
-    ensures placed { CanBePlaced result.e }
+    ensures placed { CanBePlaced (is_vector (kind_seen kind)) result.e }
 {
     let slots = layout.slots.as_slice();
     let g = number_of(operand_of(SlotKind::G, slots, instruction));

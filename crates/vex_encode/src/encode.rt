@@ -62,7 +62,7 @@ fn spelling_by(
     ensures { result ≡ bytes_of (row_chosen choice.now) (candidate (row_chosen choice.now) instruction.now.meaning) }
 {
     let numbers = operand_fields(kind, layout, instruction);
-    let place = place_of(numbers.e);
+    let place = place_of(kind.is_vector(), numbers.e);
     let prefix = Prefix {
         map: choice.entry.map,
         pp: choice.entry.pp,

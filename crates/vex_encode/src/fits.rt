@@ -33,25 +33,26 @@ fn base_fits(base: Option<RegSpec>, index: Option<Index>) -> bool
     }
 }
 
-/// Whether an address can have this index, of that bank: the number 4 means none (Intel SDM volume 2, section 2.1.5).
-fn index_fits(bank: RegisterBank, index: Option<Index>) -> bool
-    ensures { IsTrue result ↔ SlotIndexFits bank index }
+/// Whether an address can have this index, of that bank: the number 4 means none, unless the index is a vector register,
+/// which has to be there (Intel SDM volume 2, sections 2.1.5 and 2.3.12).
+fn index_fits(vector: bool, bank: RegisterBank, index: Option<Index>) -> bool
+    ensures { IsTrue result ↔ SlotIndexFits vector bank index }
 {
     match index {
-        None => true,
+        None => !vector,
         Some(index) => {
             register_fits(bank, index.reg)
-                && index.reg.num() != 4
+                && (vector || index.reg.num() != 4)
                 && matches!(index.scale, 1 | 2 | 4 | 8)
         }
     }
 }
 
-/// Whether bytes can name an address with an index of that bank.
-fn address_fits(bank: RegisterBank, address: Address) -> bool
-    ensures { IsTrue result ↔ AddressFits bank address }
+/// Whether bytes can name an address with an index of that bank, which is a vector register or not.
+fn address_fits(vector: bool, bank: RegisterBank, address: Address) -> bool
+    ensures { IsTrue result ↔ AddressFits vector bank address }
 {
-    base_fits(address.base, address.index) && index_fits(bank, address.index)
+    base_fits(address.base, address.index) && index_fits(vector, bank, address.index)
 }
 
 /// Whether an operand is a register that can stand at a slot of that bank.
@@ -64,13 +65,13 @@ fn is_register_of(bank: RegisterBank, operand: Operand) -> bool
     }
 }
 
-/// Whether an operand is an address that bytes can name, with an index of that bank.
-fn is_address_of(bank: RegisterBank, operand: Operand) -> bool
-    ensures { IsTrue result ↔ IsAddressOf bank (operand_meaning operand) }
+/// Whether an operand is an address that bytes can name, with an index of that bank, which is a vector register or not.
+fn is_address_of(vector: bool, bank: RegisterBank, operand: Operand) -> bool
+    ensures { IsTrue result ↔ IsAddressOf vector bank (operand_meaning operand) }
 {
     match operand {
-        Operand::MemDeref { base } => base_fits(Some(base), None),
-        Operand::Memory { address } => address_fits(bank, address),
+        Operand::MemDeref { base } => !vector && base_fits(Some(base), None),
+        Operand::Memory { address } => address_fits(vector, bank, address),
         _ => false,
     }
 }
@@ -82,7 +83,8 @@ fn placed_fits(kind: Kind, index_bank: RegisterBank, bank: RegisterBank, operand
     match kind {
         Kind::WithoutModRM => false,
         Kind::Register => is_register_of(bank, operand),
-        Kind::Memory => is_address_of(index_bank, operand),
+        Kind::Memory => is_address_of(false, index_bank, operand),
+        Kind::Vector => is_address_of(true, index_bank, operand),
     }
 }
 
@@ -121,6 +123,7 @@ fn operands_fit(
 }
 
 /// Whether the row of a layout, with this kind of operand E, can give an instruction.
+#[tactic(auto, unfolding(vex_rows::specs::Row::mark_of))]
 pub fn can_give(kind: Kind, layout: &RowLayout, instruction: &Instruction) -> bool
     ensures { (row : Row) → IsLayout row layout.now → row.kind ≡ kind_seen kind
         → (IsTrue result ↔ CanGive row instruction.now.meaning) }
