@@ -12,7 +12,7 @@ use Rattle.x86_address.specs.Bytes.{IsBytes}
 use Rattle.x86_reader.specs.Reader.{Passes, marked}
 use Rattle.x86_reader.specs.SliceReader.{SliceReader, slice_state}
 use Rattle.x86_reader.specs.Sink.{Records, TripleList, list_state}
-use Rattle.vex_rows.specs.Row.{Row, opcode_of}
+use Rattle.vex_rows.specs.Row.{Row, mark_of, opcode_of}
 use Rattle.vex_forms.specs.FormWalk.{taken}
 use Rattle.vex_decode.specs.Spelling.{Syntax}
 use Rattle.vex_decode.specs.Walk.{walk}
@@ -66,7 +66,7 @@ taken-refused settings error before after passed passes blocks =
 number-read : (settings : List Bool) (bytes : List ℕ) (read : Row × Syntax) (rest : List ℕ) → walk bytes ≡ Ok (read, rest)
     → number_taken bytes (blocked settings bytes) ≡ taken bytes rest
 number-read settings bytes read rest walked =
-    ap (λ w. number_taken bytes (refused settings bytes w)) walked ∙ by (permits settings false (opcode_of read.0)) where
+    ap (λ w. number_taken bytes (refused settings bytes w)) walked ∙ by (permits settings (mark_of read.0) (opcode_of read.0)) where
       by : (permitted : Bool) → number_taken bytes (if permitted then None else Some (InvalidOpcode, taken bytes rest)) ≡ taken bytes rest
       by true = ap (number_read bytes) walked
       by false = refl
