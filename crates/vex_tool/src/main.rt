@@ -28,6 +28,8 @@ mod halt;
 mod input;
 mod laws;
 mod line_buffer;
+#[cfg(test)]
+mod line_tests;
 mod line_text;
 // For callers of `run` over memory; here the tests alone.
 mod memory_ends;

@@ -1,0 +1,85 @@
+//! Lines of code and what `recode` answers, one for each rule of decoding and encoding.
+
+use crate::memory_ends::{MemSink, MemSource};
+use crate::run;
+use crate::words::Words;
+
+/// A profile, a line, and its answer: lengths and prefixes, operands in memory, another entry that is shorter, the order
+/// of the steps that refuse, groups, gathers, W and L, bits that play no part, and profiles.
+#[rattlefmt::skip]
+static LINES: [(&str, &[u8], &[u8]); 59] = [
+    ("default", b"C5 F8 77", b"3 VZEROUPPER 0 c5f877\n"),
+    ("default", b"C5 F8 77 FF FF", b"3 VZEROUPPER 0 c5f877\n"),
+    ("default", b"C5 E8 77", b"error InvalidOperand\n"),
+    ("default", b"C5 F8", b"error ExhaustedInput\n"),
+    ("minimal", b"C5 F8", b"error ExhaustedInput\n"),
+    ("default", b"C4 E1 70 58 C2", b"5 VADDPS x0 x1 x2 0 c5f058c2\n"),
+    ("default", b"C4 C1 78 28 C0", b"5 VMOVAPS x0 x8 0 c57829c0\n"),
+    ("default", b"C4 E1 F9 6E 00", b"5 VMOVQ x0 mq0/-/0 8 c5fa7e00\n"),
+    ("default", b"C5 FC 28 80 00 00 00 00", b"8 VMOVAPS y0 mq0/-/0 32 c5fc2800\n"),
+    ("default", b"C5 FC 28 45 00", b"5 VMOVAPS y0 mq5/-/0 32 c5fc284500\n"),
+    ("default", b"C5 F8 28 04 20", b"5 VMOVAPS x0 mq0/-/0 16 c5f82800\n"),
+    ("default", b"C4 C1 78 28 05 10 00 00 00", b"9 VMOVAPS x0 mrip/-/16 16 c5f8280510000000\n"),
+    ("default", b"C4 E3 79 14 84 88 78 56 34 12 07", b"11 VPEXTRB mq0/q1*4/305419896 x0 u7 1 c4e3791484887856341207\n"),
+    ("default", b"C5 F8 28 40 80", b"5 VMOVAPS x0 mq0/-/-128 16 c5f8284080\n"),
+    ("default", b"C5 F8 28 80 80 FF FF FF", b"8 VMOVAPS x0 mq0/-/-128 16 c5f8284080\n"),
+    ("default", b"C5 F8 28 80 80 00 00 00", b"8 VMOVAPS x0 mq0/-/128 16 c5f8288080000000\n"),
+    ("default", b"C4 C1 78 28 04 24", b"6 VMOVAPS x0 mq12/-/0 16 c4c178280424\n"),
+    ("default", b"C5 F8 28 04 25 00 10 00 00", b"9 VMOVAPS x0 m-/-/4096 16 c5f828042500100000\n"),
+    ("default", b"C5 F8 50 80 00", b"error ExhaustedInput\n"),
+    ("default", b"C5 F8 50 00", b"error InvalidOperand\n"),
+    ("default", b"C5 F0 28", b"error InvalidOperand\n"),
+    ("default", b"C5 F2 10 40", b"error ExhaustedInput\n"),
+    ("default", b"C5 F2 10 00", b"error InvalidOperand\n"),
+    ("default", b"C5 F1 71 CA 04", b"error InvalidOpcode\n"),
+    ("default", b"C5 F5 71 CA 04", b"error InvalidOpcode\n"),
+    ("default", b"C4 E2 7D 13 00", b"5 VCVTPH2PS y0 mq0/-/0 16 c4e27d1300\n"),
+    ("default", b"C4 E2 7D 13 C1", b"5 VCVTPH2PS y0 x1 0 c4e27d13c1\n"),
+    ("default", b"C5 FD 70 00 1B", b"5 VPSHUFD y0 mq0/-/0 u27 32 c5fd70001b\n"),
+    ("default", b"C4 E2 79 22 00", b"5 VPMOVSXBQ x0 mq0/-/0 2 c4e2792200\n"),
+    ("default", b"C4 E2 F1 A9 C2", b"5 VFMADD213SD x0 x1 x2 0 c4e2f1a9c2\n"),
+    ("default", b"C4 E2 75 91 04 20", b"6 VPGATHERQD x0 mq0/y4*1/0 x1 4 c4e275910420\n"),
+    ("default", b"C4 A2 71 92 14 E5 00 00 00 00", b"10 VGATHERDPS x2 m-/x12*8/0 x1 4 c4a2719214e500000000\n"),
+    ("default", b"C4 E2 71 90 C2", b"error InvalidOperand\n"),
+    ("default", b"C4 E2 71 90 00", b"error InvalidOperand\n"),
+    ("default", b"C4 E2 71 92 04", b"error ExhaustedInput\n"),
+    ("default", b"C4 E3 79 15 C8 02", b"6 VPEXTRW d0 x1 u2 0 c5f9c5c102\n"),
+    ("default", b"C4 E3 71 4A C2 35", b"6 VBLENDVPS x0 x1 x2 x3 0 c4e3714ac230\n"),
+    ("default", b"C4 E3 03 F0 C1 05", b"6 RORX d0 d1 i5 0 c4e37bf0c105\n"),
+    ("default", b"C4 62 70 F3 C9", b"5 BLSR d1 d1 0 c4e270f3c9\n"),
+    ("default", b"C5 F8 AE D0", b"error InvalidOperand\n"),
+    ("default", b"C4 E3 7D 61 C1 0C", b"error InvalidOperand\n"),
+    ("default", b"C4 E0 78 58 C0", b"error InvalidOpcode\n"),
+    ("default", b"C4 E3 78 0F C0 00", b"error InvalidOpcode\n"),
+    ("default", b"C4 00", b"error ExhaustedInput\n"),
+    ("default", b"33 C0", b"error Outside\n"),
+    ("default", b"C4 E2 F9 45 C0", b"5 VPSRLVQ x0 x0 x0 0 c4e2f945c0\n"),
+    ("default", b"C4 E2 79 45 C0", b"5 VPSRLVD x0 x0 x0 0 c4e27945c0\n"),
+    ("default", b"C5 FE 58 C1", b"4 VADDSS x0 x0 x1 0 c5fa58c1\n"),
+    ("nehalem", b"C5 F8 77", b"error InvalidOpcode\n"),
+    ("sandybridge", b"C5 F8 77", b"3 VZEROUPPER 0 c5f877\n"),
+    ("sandybridge", b"C4 E2 79 13 C1", b"error InvalidOpcode\n"),
+    ("ivybridge", b"C4 E2 79 13 C1", b"5 VCVTPH2PS x0 x1 0 c4e27913c1\n"),
+    ("sandybridge", b"C4 E2 7D 58 C1", b"5 VPBROADCASTD y0 x1 0 c4e27d58c1\n"),
+    ("default", b"C4 A1 78 28 C1", b"5 VMOVAPS x0 x1 0 c5f828c1\n"),
+    ("default", b"C4 E1 F0 58 C2", b"5 VADDPS x0 x1 x2 0 c5f058c2\n"),
+    ("default", b"C4 C1 78 28 04 25 00 10 00 00", b"10 VMOVAPS x0 m-/-/4096 16 c5f828042500100000\n"),
+    ("default", b"C5 F8 28 04 E4", b"5 VMOVAPS x0 mq4/-/0 16 c5f8280424\n"),
+    ("default", b"C5 80 AE 10", b"4 VLDMXCSR mq0/-/0 4 c5f8ae10\n"),
+    ("default", b"C5 00 AE 10", b"4 VLDMXCSR mq0/-/0 4 c5f8ae10\n"),
+];
+
+#[test]
+fn lines_have_their_answers(rt: HostRuntime) {
+    for (profile, line, text) in LINES.iter() {
+        let mut words = Words::new();
+        words.push("recode");
+        words.push(profile);
+        let mut source = MemSource::new(line, 4096, &[]);
+        let mut room = [0u8; 100];
+        let mut sink = MemSink::new(&mut room, &[]);
+        let status = run(rt.alloc(), &words, &mut source, &mut sink);
+        assert_eq!(rt; status.code(), 0);
+        assert_eq!(rt; sink.written(), *text);
+    }
+}
