@@ -27,3 +27,5 @@ pub use steps::Check;
 
 #[cfg(test)]
 mod tests;
+#[cfg(test)]
+mod wanted;

@@ -4,6 +4,7 @@ ghost use Rattle.std.specs.Prelude.{◌≡◌, ◌<◌, length};
 ghost use Rattle.vex_rows.specs.Table.{table};
 
 use crate::Check::{Group, L0, Mem, Reg, V0, VifMem};
+use crate::wanted::wanted;
 use crate::{
     Check, Entry, Form, Key, Map, Pp, entries_of, entry_at, entry_count, laws, lookup, row_of_form,
 };
@@ -93,6 +94,29 @@ fn keys_have_their_entries(rt: HostRuntime) -> Result<(), Fail> {
         }
     }
     assert_eq!(rt; entry_count(), 434);
+    Ok(())
+}
+
+// Every key of every opcode map and implied prefix, by byte, W and L, against the second copy.
+#[test]
+fn every_key_has_the_entry_of_the_manual(rt: HostRuntime) -> Result<(), Fail> {
+    for map in [Map::Map0F, Map::Map0F38, Map::Map0F3A] {
+        for pp in [Pp::Plain, Pp::Prefix66, Pp::PrefixF3, Pp::PrefixF2] {
+            for byte in 0..=255 {
+                for (w, l) in [(false, false), (false, true), (true, false), (true, true)] {
+                    let key = Key {
+                        map,
+                        pp,
+                        byte,
+                        w,
+                        l,
+                    };
+                    let found = look_up(&key).map(|entry| (entry.form, entry.opcode));
+                    assert_eq!(rt; found, wanted(&key), "{key:?}");
+                }
+            }
+        }
+    }
     Ok(())
 }
 
