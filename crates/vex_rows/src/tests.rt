@@ -427,4 +427,5 @@ fn laws_can_be_called() {
     laws::forms_are_in_order();
     laws::forms_are_orderly();
     laws::groups_are_fields();
+    laws::gathers_are_checked();
 }

@@ -31,7 +31,7 @@ macro_rules! of_form {
 }
 
 #[rattlefmt::skip]
-static LINES: [Line; 132] = [
+static LINES: [Line; 134] = [
     of_form!(Nothing Map0F Plain Any Zero: 0x77 VZEROUPPER),
     of_form!(Nothing Map0F Plain Any One: 0x77 VZEROALL),
     of_form!(MXCSR Map0F Plain Any Zero: 0xAE Invalid),
@@ -169,6 +169,10 @@ static LINES: [Line; 132] = [
     of_form!(M_V_G_ymm Map0F38 Prefix66 One One: 0x8E VPMASKMOVQ),
     of_form!(G_Lmm_E_xmm Map0F38 Prefix66 Zero Any:
         0x13 VCVTPH2PS, 0x58 VPBROADCASTD, 0x59 VPBROADCASTQ, 0x78 VPBROADCASTB, 0x79 VPBROADCASTW),
+    of_form!(G_ExyL_V_xyLmm Map0F38 Prefix66 Zero Any:
+        0x90 VPGATHERDD, 0x91 VPGATHERQD, 0x92 VGATHERDPS, 0x93 VGATHERQPS),
+    of_form!(G_ExyL_V_xyLmm Map0F38 Prefix66 One Any:
+        0x90 VPGATHERDQ, 0x91 VPGATHERQQ, 0x92 VGATHERDPD, 0x93 VGATHERQPD),
     of_form!(G_V_E Map0F38 Plain Any Zero: 0xF2 ANDN),
     of_form!(G_V_E Map0F38 PrefixF2 Any Zero: 0xF5 PDEP, 0xF6 MULX),
     of_form!(G_V_E Map0F38 PrefixF3 Any Zero: 0xF5 PEXT),
