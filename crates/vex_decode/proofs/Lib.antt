@@ -17,3 +17,5 @@ pub mod Rests
 pub mod Permitted
 pub mod SpellingLaws
 pub mod Computed
+pub mod Twice
+pub mod VexOpcodes

@@ -1,15 +1,20 @@
 -- The laws of spellings.
-use Rattle.std.specs.Prelude.{◌≡◌, ◌≢◌, ◌↔◌, ℕ, ◌≤◌, Bool, false, List, ◌∷◌, ◌++◌, length, take, Some, None, Ok, IsTrue}
+use Rattle.std.specs.Prelude.{◌≡◌, ◌≢◌, ◌↔◌, ℕ, ◌≤◌, Bool, true, false, List, ◌∷◌, ◌++◌, length, take, Some, None, Result, Ok, IfErr, OnOk, OnErr, IsTrue}
+use Rattle.x86_opcode.specs.declared.Opcode.{Opcode}
+use Rattle.x86_opcode.specs.Vex.{is_vex}
 use Rattle.x86_operand.specs.declared.error.DecodeError.{DecodeError}
 use Rattle.x86_operand.specs.declared.error.DecodeError.TheVariants.{ExhaustedInput, InvalidOpcode, Outside}
-use Rattle.x86_operand.specs.Meaning.{Meaning}
+use Rattle.x86_operand.specs.Meaning.{Meaning, Decoded}
 use Rattle.x86_permit.specs.Permission.{permits}
 use Rattle.x86_settings.specs.Bits.{is_set}
+use Rattle.x86_reader.specs.Reader.{marked, Passes}
+use Rattle.x86_reader.specs.SliceReader.{SliceReader, slice_state}
 use Rattle.x86_address.specs.Bytes.{IsBytes, Begins}
-use Rattle.vex_rows.specs.Row.{Row, IsRow}
+use Rattle.vex_rows.specs.Row.{Row, IsRow, opcode_of}
 use Rattle.vex_decode.specs.Spelling.{Syntax, IsSyntax, bytes_of, Spells}
 use Rattle.vex_decode.specs.Walk.{walk}
 use Rattle.vex_decode.specs.Blocked.{fails, blocked}
+use Rattle.vex_decode.specs.Decoding.{TakesInstruction, TakesBlocked, BlocksSlice, no_instruction}
 
 -- of two spellings of which one begins the other, the one is the other
 abbrev pub PrefixFree : Type 0
@@ -123,3 +128,28 @@ abbrev pub SettingsAlone : Type 0
 SettingsAlone =
     (settings : List Bool) (bytes : List ℕ) (n : ℕ) → IsBytes bytes
     → ((fails bytes ≡ None) × (blocked settings bytes ≡ Some (InvalidOpcode, n))) ↔ BeginsRefused settings bytes n
+
+-- an opcode is a VEX opcode exactly where some row gives it
+abbrev pub VexOpcodes : Type 0
+VexOpcodes = (o : Opcode) → (is_vex o ≡ true) ↔ ((row : Row) × IsRow row × (opcode_of row ≡ o))
+
+-- what the clauses of a decode into an instruction say of its answer, over a `U8Reader`, with and without notes
+pub record Answers (settings : List Bool) (before after : SliceReader) (result : Result Unit DecodeError) (instruction : Decoded) : Type 0 where
+  pub decoded : OnOk result (TakesInstruction settings (marked (slice_state before)) (slice_state after) instruction)
+  pub refused : IfErr result (TakesBlocked settings (marked (slice_state before)) (slice_state after))
+  pub fresh : OnErr result (instruction ≡ no_instruction)
+  pub slice : IfErr result (BlocksSlice settings (marked (slice_state before)) (slice_state after))
+
+-- two readers gave the same bytes
+pub record TakeTheSame (before after before' after' : SliceReader) : Type 0 where
+  pub bytes : List ℕ
+  pub passes : Passes (marked (slice_state before)) (slice_state after) bytes
+  pub other : Passes (marked (slice_state before')) (slice_state after') bytes
+
+-- over the same bytes and settings, a decode with notes and one without give one answer and one instruction, and take
+-- the same bytes
+abbrev pub NotesChangeNothing : Type 0
+NotesChangeNothing =
+    (settings : List Bool) (before after before' after' : SliceReader) (result result' : Result Unit DecodeError) (instruction instruction' : Decoded)
+    → before.left ≡ before'.left → Answers settings before after result instruction → Answers settings before' after' result' instruction'
+    → (result ≡ result') × (instruction ≡ instruction') × TakeTheSame before after before' after'

@@ -1,6 +1,6 @@
-//! What holds of all spellings, each law as the contract of a function that does nothing.
+//! What holds of all spellings and of all decodes, each law as the contract of a function that does nothing.
 
-ghost use Rattle.vex_decode.specs.Laws.{PrefixFree, SpellingLength, SpellingBytes, OneMeaning, ReadingIsSpelling, BlockedOrBegun, MoreBytes, ExhaustedAtEnd, MoreSettings, SameAnswer, FirstBytes, AtMostEleven, SettingsLast, OutsideExactly, SettingsAlone};
+ghost use Rattle.vex_decode.specs.Laws.{PrefixFree, SpellingLength, SpellingBytes, OneMeaning, ReadingIsSpelling, BlockedOrBegun, MoreBytes, ExhaustedAtEnd, MoreSettings, SameAnswer, FirstBytes, AtMostEleven, SettingsLast, OutsideExactly, SettingsAlone, VexOpcodes, NotesChangeNothing};
 
 /// If one spelling begins another they are equal, and every spelling is a string of 3 to 11 bytes.
 pub fn prefix_free()
@@ -47,4 +47,15 @@ pub fn causes_of_refusals()
 pub fn more_settings()
     ensures kept { MoreSettings }
     ensures same { SameAnswer }
+{}
+
+/// An opcode is a VEX opcode exactly where some row gives it.
+pub fn vex_opcodes()
+    ensures { VexOpcodes }
+{}
+
+/// Over a `U8Reader`, `decode_with_annotation` gives the answer and the instruction that `decode_into` gives on the same
+/// bytes and settings, and takes the same bytes, whatever the sink is.
+pub fn notes_change_nothing()
+    ensures { NotesChangeNothing }
 {}

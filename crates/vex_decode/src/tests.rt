@@ -104,25 +104,65 @@ fn each_call_answers_the_same(rt: HostRuntime) {
     all_answer(&rt, &none, &[0xC5, 0xE8, 0x77], Err(InvalidOperand));
 }
 
-/// The reader refuses at each call in turn.
+/// The answer of a decode that was refused a byte at this call is `ExhaustedInput`, the instruction is the default one,
+/// and the reader has given as many bytes as there were calls before.
+fn is_exhausted(
+    rt: &impl Abort,
+    answer: Result<(), DecodeError>,
+    instruction: &Instruction,
+    taken: u64,
+    call: u64,
+) {
+    assert_eq!(rt; answer, Err(ExhaustedInput), "at call {call}");
+    assert_eq!(rt; *instruction, Instruction::default());
+    assert_eq!(rt; taken, call);
+}
+
+/// The reader refuses at each call in turn, of a decode without notes and of one with them.
 fn refused_at_each_call(rt: &impl Abort, bytes: &[u8]) {
     let decoder = InstDecoder::default();
-    for call in 0..bytes.len() {
-        let failing = [call as u64];
+    for place in 0..bytes.len() {
+        let call = place as u64;
+        let failing = [call];
+        let mut words = FailReader::new(bytes, &failing);
+        let mut instruction = other();
+        let answer = decoder.decode_into(&mut instruction, &mut words);
+        is_exhausted(rt, answer, &instruction, words.total_offset(), call);
+
         let mut words = FailReader::new(bytes, &failing);
         let mut instruction = other();
         let mut sink: ListSink<FieldDescription> = ListSink::new();
         let answer = decoder.decode_with_annotation(&mut instruction, &mut words, &mut sink);
-        assert_eq!(rt; answer, Err(ExhaustedInput), "at call {call}");
-        assert_eq!(rt; instruction, Instruction::default());
-        assert_eq!(rt; words.total_offset(), call as u64);
+        is_exhausted(rt, answer, &instruction, words.total_offset(), call);
     }
+}
+
+/// Bytes that decode to an instruction of this length, and that a reader refuses at each call in turn.
+fn decodes_unless_refused(rt: &impl Abort, bytes: &[u8], length: u8) {
+    all_answer(rt, &InstDecoder::default(), bytes, Ok(length));
+    refused_at_each_call(rt, bytes);
 }
 
 #[test]
 fn a_refused_byte_is_exhausted_input(rt: HostRuntime) {
-    refused_at_each_call(&rt, &VZEROUPPER);
-    refused_at_each_call(&rt, &VMOVAPS);
+    decodes_unless_refused(&rt, &VZEROUPPER, 3);
+    decodes_unless_refused(&rt, &VMOVAPS, 5);
+
+    // `VPEXTRB`, which has all that an instruction can have.
+    decodes_unless_refused(
+        &rt,
+        &[
+            0xC4, 0xE3, 0x79, 0x14, 0x84, 0x88, 0x78, 0x56, 0x34, 0x12, 0x07,
+        ],
+        11,
+    );
+
+    // `VPGATHERQD`, whose index is a vector register.
+    decodes_unless_refused(&rt, &[0xC4, 0xE2, 0x75, 0x91, 0x04, 0x20], 6);
+
+    // `RORX` and `BLSR`, which ignore vvvv and R.
+    decodes_unless_refused(&rt, &[0xC4, 0xE3, 0x03, 0xF0, 0xC1, 0x05], 6);
+    decodes_unless_refused(&rt, &[0xC4, 0x62, 0x70, 0xF3, 0xC9], 5);
 }
 
 /// The notes on bytes are these, each with its first bit, its last bit and its number.
