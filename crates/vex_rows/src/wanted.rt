@@ -1,8 +1,8 @@
 //! A second copy of the entries, by the form of their operands, to compare `lookup` with.
 //!
 //! A line has the form, the opcode map, the implied prefix and the rules of W and of L, and after them each opcode byte
-//! with its opcode, as the manual has them (Intel SDM volume 2, section 3.1.1.2) but for what docs/DIFFERENCES.md names.
-//! Nothing here is made from the table.
+//! with its opcode, as the manual has them (Intel SDM volume 2, section 3.1.1.2) but for what docs/DIFFERENCES.md
+//! names. Nothing here is made from the table.
 
 use crate::{Form, Key, Map, Pp, Rule};
 use x86_operand::Opcode;
