@@ -11,7 +11,7 @@ mod vex_prefix;
 pub use decoder::Decoder;
 pub use laws::{
     blocked_by_first_bytes, blocked_or_begun, causes_of_refusals, more_settings, one_meaning,
-    prefix_free, reading_is_spelling,
+    prefix_free, reading_is_spelling, spelling_is_read,
 };
 pub use prefix_fields::shortest_prefix;
 pub use vex_prefix::{three_byte_vex, two_byte_vex};
