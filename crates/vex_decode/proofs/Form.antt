@@ -7,11 +7,11 @@ use Rattle.x86_address.specs.Bytes.{IsBytes}
 use Rattle.x86_address.specs.Place.{Place, NoPlace, Direct, Based, RipBased, Scaled, Baseless, mod_of_displacement, IsPlace, IsOfKind, kind_of, has_sib, mod_of, rm_of, tail_of, place_bytes}
 use Rattle.x86_address.specs.Reading.{Reading, ◌>>=◌}
 use Rattle.x86_address.specs.Bytes.{Displacement, Absent, Short, Long}
-use Rattle.x86_address.proofs.Fields.{high_field, middle_field, low_field}
-use Rattle.x86_address.proofs.PlaceBytes.{place_bytes_split, rm_of_below}
-use Rattle.x86_address.proofs.Reader.{Answers}
-use Rattle.x86_address.proofs.Reading.{take_place-again}
-use Rattle.x86_address.proofs.Spelling.{reading_is_spelling}
+use Rattle.x86_address.specs.Bytes.Laws.{high_field, middle_field, low_field}
+use Rattle.x86_address.specs.Place.Laws.{place_bytes_split, rm_of_below}
+use Rattle.x86_address.specs.Reading.Laws.{Answers}
+use Rattle.x86_address.specs.Reading.Places.{take_place-again}
+use Rattle.x86_address.specs.Reading.Places.{reading_is_spelling}
 use Rattle.vex_rows.specs.declared.entry.Entry.{Entry}
 use Rattle.vex_rows.specs.declared.steps.Check.{Check}
 use Rattle.vex_rows.specs.declared.steps.Check.TheVariants.{V0, L0, Reg, Mem, Group, VifMem}

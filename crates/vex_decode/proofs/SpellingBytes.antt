@@ -4,7 +4,8 @@ use Rattle.std.proofs.Common.{arith, sym, subst, length-append}
 use Rattle.x86_operand.specs.Meaning.{Meaning}
 use Rattle.x86_address.specs.Bytes.{IsBytes, bit}
 use Rattle.x86_address.specs.Place.{Place, NoPlace, place_bytes}
-use Rattle.x86_address.proofs.PlaceBytes.{IsBytes-append, IsBytes-place_bytes, tail_length}
+use Rattle.x86_address.specs.Bytes.Laws.{IsBytes-append}
+use Rattle.x86_address.specs.Place.Laws.{IsBytes-place_bytes, tail_length}
 use Rattle.vex_rows.specs.Row.{Row, IsRow, has_imm}
 use Rattle.vex_rows.specs.Steps.{steps}
 use Rattle.vex_rows.specs.Rules.{map_number, pp_number}

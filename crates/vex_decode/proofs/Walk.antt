@@ -8,7 +8,7 @@ use Rattle.x86_operand.specs.Kind.{Kind, WithoutModRM}
 use Rattle.x86_address.specs.Bytes.{IsBytes}
 use Rattle.x86_address.specs.Place.{place_bytes}
 use Rattle.x86_address.specs.Reading.{take_byte}
-use Rattle.x86_address.proofs.Reader.{Answers, Answers-ok, Answers-bind, ReadsByte, take_byte-written}
+use Rattle.x86_address.specs.Reading.Laws.{Answers, Answers-ok, Answers-bind, ReadsByte, take_byte-written}
 use Rattle.vex_rows.specs.declared.entry.Entry.{Entry}
 use Rattle.vex_rows.specs.declared.form.Form.{Form}
 use Rattle.vex_rows.specs.declared.key.Map.{Map}

@@ -44,6 +44,11 @@ ReadingIsSpelling =
     (bytes : List ℕ) (row : Row) (parts : Syntax) (rest : List ℕ) → IsBytes bytes
     → walk bytes ≡ Ok ((row, parts), rest) ↔ BeginsAs bytes row parts rest
 
+-- where a spelling stands first, its row and its parts are what a decode takes, whatever numbers follow
+abbrev pub SpellingIsRead : Type 0
+SpellingIsRead =
+    (bytes rest : List ℕ) (m : Meaning) (spells : Spells bytes m) → walk (bytes ++ rest) ≡ Ok ((spells.row, spells.by.parts), rest)
+
 -- the bytes begin with a spelling of a meaning whose opcode the settings permit
 pub record BeginsPermitted (settings : List Bool) (bytes : List ℕ) : Type 0 where
   pub front : List ℕ

@@ -1,6 +1,6 @@
 //! What holds of all spellings and of all decodes, each law as the contract of a function that does nothing.
 
-ghost use Rattle.vex_decode.specs.Laws.{PrefixFree, SpellingLength, SpellingBytes, OneMeaning, ReadingIsSpelling, BlockedOrBegun, MoreBytes, ExhaustedAtEnd, MoreSettings, SameAnswer, FirstBytes, AtMostEleven, SettingsLast, OutsideExactly, SettingsAlone, VexOpcodes, NotesChangeNothing};
+ghost use Rattle.vex_decode.specs.Laws.{PrefixFree, SpellingLength, SpellingBytes, OneMeaning, ReadingIsSpelling, SpellingIsRead, BlockedOrBegun, MoreBytes, ExhaustedAtEnd, MoreSettings, SameAnswer, FirstBytes, AtMostEleven, SettingsLast, OutsideExactly, SettingsAlone, VexOpcodes, NotesChangeNothing};
 
 /// If one spelling begins another they are equal, and every spelling is a string of 3 to 11 bytes.
 pub fn prefix_free()
@@ -18,6 +18,11 @@ pub fn one_meaning()
 /// row writes at their front.
 pub fn reading_is_spelling()
     ensures { ReadingIsSpelling }
+{}
+
+/// Where a spelling stands first, a decode takes its row and its parts, and leaves whatever follows.
+pub fn spelling_is_read()
+    ensures { SpellingIsRead }
 {}
 
 /// No step of a decode fails exactly where some beginning of the bytes spells a meaning whose opcode is permitted, and

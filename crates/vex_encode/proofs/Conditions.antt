@@ -17,8 +17,8 @@ use Rattle.x86_operand.specs.Same.{same_meaning}
 use Rattle.x86_operand.specs.Same.Laws.{same_meaning_refl}
 use Rattle.x86_address.specs.Place.{Place, Base, NoBase, Rip, Numbered, PlainAddress, Target, Number, At, IsOfKind, kind_of_target, has_sib, IsPlace, target}
 use Rattle.x86_address.specs.Shortest.{plain, plain_base, plain_index, base_in, base_register, index_register, in_banks, shortest, x_of, b_of, IsBase, IsIndex, IsSpellableAddress, IsSpellable}
-use Rattle.x86_address.proofs.Encodable.{power_of_scale, scale_of_power}
-use Rattle.x86_address.proofs.Shortest.{kind_of_target-target, names-shortest, sib-shortest, IsSpellable-target}
+use Rattle.x86_address.specs.Spells.Laws.{power_of_scale, scale_of_power}
+use Rattle.x86_address.specs.Shortest.Laws.{kind_of_target-target, names-shortest, sib-shortest, IsSpellable-target}
 use Rattle.vex_rows.specs.FormRows.{gathers}
 use Rattle.vex_rows.specs.Steps.{steps}
 use Rattle.vex_rows.specs.Groups.{groups}

@@ -11,7 +11,7 @@ use Rattle.x86_operand.specs.Same.{same_meaning}
 use Rattle.x86_operand.specs.Same.Laws.{same_meaning_equal}
 use Rattle.x86_address.specs.Place.{Place, NoPlace, Direct, Based, RipBased, Scaled, Baseless, Target, NoTarget, Number, At, kind_of_target, target, place_bytes}
 use Rattle.x86_address.specs.Shortest.{shortest, x_of, b_of}
-use Rattle.x86_address.proofs.Shortest.{kind_of-shortest, kind_of_target-target}
+use Rattle.x86_address.specs.Shortest.Laws.{kind_of-shortest, kind_of_target-target}
 use Rattle.vex_rows.specs.declared.entry.Entry.{Entry}
 use Rattle.vex_rows.specs.declared.form.Form.{Form}
 use Rattle.vex_rows.specs.declared.form.Form.TheVariants.{Nothing}

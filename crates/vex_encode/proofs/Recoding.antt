@@ -5,8 +5,8 @@ use Rattle.x86_operand.specs.Meaning.{Meaning, Decoded}
 use Rattle.x86_permit.specs.Permission.{permits}
 use Rattle.vex_decode.specs.Spelling.{Spells}
 use Rattle.vex_decode.specs.Blocked.{blocked}
-use Rattle.vex_decode.proofs.Spells.{spells-not_blocked}
 use Rattle.vex_encode.specs.Canon.{canon}
+use Rattle.vex_encode.specs.Laws.{CanonicalNotBlocked}
 use Rattle.vex_encode.specs.Recode.{RecodesAs, Recodes}
 use Rattle.vex_encode.proofs.Canon.{canon_spells, canon_least}
 
@@ -14,8 +14,8 @@ use Rattle.vex_encode.proofs.Canon.{canon_spells, canon_least}
 pub canonical_there : (bytes : List ℕ) (m : Meaning) → Spells bytes m → canon m ≡ None → ⊥
 canonical_there bytes m spells none = let least = canon_least m bytes spells in cc (least.1)
 
-pub recodes : (settings : List Bool) (bytes : List ℕ) (decoded : Decoded) (spelling : List ℕ) → blocked settings bytes ≡ None → decoded.len ≤ length bytes → Spells (take decoded.len bytes) decoded.meaning → permits settings decoded.meaning.evex decoded.meaning.opcode ≡ true → canon decoded.meaning ≡ Some spelling → RecodesAs settings bytes decoded spelling
-recodes settings bytes decoded spelling begun within spelled permitted canonical =
+pub recodes : CanonicalNotBlocked → (settings : List Bool) (bytes : List ℕ) (decoded : Decoded) (spelling : List ℕ) → blocked settings bytes ≡ None → decoded.len ≤ length bytes → Spells (take decoded.len bytes) decoded.meaning → permits settings decoded.meaning.evex decoded.meaning.opcode ≡ true → canon decoded.meaning ≡ Some spelling → RecodesAs settings bytes decoded spelling
+recodes not_blocked settings bytes decoded spelling begun within spelled permitted canonical =
     let spells = canon_spells decoded.meaning spelling canonical in
     record {
       begun = begun;
@@ -24,7 +24,7 @@ recodes settings bytes decoded spelling begun within spelled permitted canonical
       permitted = permitted;
       canonical = canonical;
       same = spells;
-      accepted = spells-not_blocked settings spelling decoded.meaning spells permitted;
+      accepted = not_blocked settings decoded.meaning spelling permitted canonical;
     }
 
 module _ (settings : List Bool) (bytes : List ℕ) where

@@ -10,7 +10,7 @@ use Rattle.x86_operand.specs.Same.{same_meaning}
 use Rattle.x86_operand.specs.Same.Laws.{same_meaning_equal, same_meaning_refl}
 use Rattle.x86_address.specs.Place.{Place, NoPlace, Direct, Based, RipBased, Scaled, Baseless, IsPlace, IsOfKind, has_sib, kind_of_target, target, place_bytes}
 use Rattle.x86_address.specs.Shortest.{shortest, x_of, b_of, IsSpellable}
-use Rattle.x86_address.proofs.Shortest.{is_place-shortest, kind_of-shortest, kind_of_target-target, sib-shortest, IsSpellable-target, shortest-least, x_of-target, b_of-target}
+use Rattle.x86_address.specs.Shortest.Laws.{is_place-shortest, kind_of-shortest, kind_of_target-target, sib-shortest, IsSpellable-target, shortest-least, x_of-target, b_of-target}
 use Rattle.x86_address.specs.Place.Laws.{vector_in_memory}
 use Rattle.vex_rows.specs.declared.key.Map.{Map}
 use Rattle.vex_rows.specs.declared.key.Map.TheVariants.{Map0F, Map0F38, Map0F3A}

@@ -26,6 +26,7 @@ use crate::spelling::Spelling;
 use arrayvec::ArrayVec;
 use std::sync::ledger::Ledger;
 use step_counter::Steps;
+use vex_forms::laws::rows_are_choices;
 use vex_forms::{RowLayout, layout};
 use vex_rows::{Entry, Form, Prefix, entries_of, row_of_form};
 use x86_operand::{Instruction, Opcode, Operand};
@@ -82,6 +83,8 @@ fn standard(choice: &RowChoice, instruction: &Instruction) -> Option<Spelling>
     requires memory { choice.now.memory ≡ list_any is_address instruction.now.meaning.operands }
     ensures { result ≡ standard_of (row_chosen choice.now) instruction.now.meaning }
 {
+    // A law: what an entry has here is a row where it can be and exists.
+    rows_are_choices();
     let layout = layout(
         &choice.entry,
         choice.w,

@@ -1,11 +1,16 @@
-//! What holds of all canonical bytes, each law as the contract of a function that does nothing.
+//! What holds of all canonical bytes, each law as the contract of a function that does nothing, but for
+//! naming the laws that it follows from.
 
 ghost use Rattle.vex_encode.specs.Laws.{CanonicalAgain, CanonicalDecodes, CanonicalNotBlocked, CanonicalSpells, CanonicalTellsApart, Shortest, StandardIsNone, StandardIsSome};
+
+use vex_decode::{blocked_or_begun, one_meaning, prefix_free};
 
 /// Meanings that have a spelling have equal canonical bytes exactly where they are equal.
 pub fn canonical_tells_apart()
     ensures { CanonicalTellsApart }
-{}
+{
+    one_meaning();
+}
 
 /// Whatever bytes spell a meaning, its canonical bytes are there, spell it too, and are no longer.
 pub fn shortest()
@@ -19,7 +24,11 @@ pub fn recode_again()
     ensures spells { CanonicalSpells }
     ensures decodes { CanonicalDecodes }
     ensures again { CanonicalAgain }
-{}
+{
+    prefix_free();
+    one_meaning();
+    blocked_or_begun();
+}
 
 /// A meaning has standard bytes by a row exactly where it has the row's opcode and size, isn't marked as EVEX and its
 /// operands fit the row's slots, and has none exactly where no bytes of that row spell it.

@@ -8,6 +8,7 @@ ghost use Rattle.vex_encode.specs.Canon.{canon};
 ghost use Rattle.vex_encode.specs.Recode.{Recodes};
 
 use crate::encode::canonical;
+use crate::laws::recode_again;
 use crate::spelling::Spelling;
 use std::marker::Brand;
 use std::sync::ledger::{Blank, Ledger};
@@ -30,6 +31,8 @@ fn canonical_bytes<L: Ledger>(instruction: &Instruction, blank: Blank) -> Option
 fn recode_all(decoder: &InstDecoder, bytes: &[u8]) -> Result<(Instruction, Spelling), DecodeError>
     ensures { Recodes decoder.now bytes.now result }
 {
+    // A law: canonical bytes of a permitted opcode are not blocked.
+    recode_again();
     let instruction = decoder.decode_slice(bytes)?;
     match canonical_bytes::<Brand>(&instruction, Blank::new(1)) {
         Some(spelling) => Ok((instruction, spelling)),

@@ -5,7 +5,7 @@ use Rattle.std.proofs.lemmas.List.{length-drop}
 use Rattle.vex_decode.specs.Spelling.{meant}
 use Rattle.vex_decode.specs.Walk.{walk}
 use Rattle.vex_forms.specs.FormWalk.{taken}
-use Rattle.vex_decode.proofs.Spells.{walk-spelling}
+use Rattle.vex_decode.specs.Laws.{SpellingIsRead}
 use Rattle.vex_encode.specs.Canon.{canon}
 use Rattle.vex_tool.specs.Laws.{LineOfSpelling, LineOfError}
 use Rattle.vex_tool.specs.ResultLine.{instruction_line, line_of_reading, line_unless_blocked, result_line}
@@ -20,12 +20,12 @@ taken-front : (bytes : List ℕ) (n : ℕ) → n ≤ length bytes → taken byte
 taken-front bytes n within = omega (arith, within, length-drop n bytes)
 
 -- bytes that a permitted spelling begins
-pub line-recoded : LineOfSpelling
+pub line-recoded : SpellingIsRead → LineOfSpelling
 unfolding result_line
-line-recoded settings bytes n m canonical begun within spells c =
+line-recoded law settings bytes n m canonical begun within spells c =
     let row = spells.row in
     let parts = spells.by.parts in
-    let walked : walk bytes ≡ Ok ((row, parts), drop n bytes) = ap walk (sym (take-append-drop n bytes)) ∙ walk-spelling (take n bytes) (drop n bytes) m spells in
+    let walked : walk bytes ≡ Ok ((row, parts), drop n bytes) = ap walk (sym (take-append-drop n bytes)) ∙ law (take n bytes) (drop n bytes) m spells in
     ap (line_unless_blocked bytes) begun
     ∙ ap (line_of_reading bytes) walked
     ∙ ap (λ k. instruction_line k (meant row parts) (unwrap_or (canon (meant row parts)) [])) (taken-front bytes n within)

@@ -5,6 +5,7 @@ ghost use Rattle.vex_tool.specs.Ends.{Writes};
 ghost use Rattle.vex_tool.specs.ResultLine.{result_line};
 
 use crate::ends::{Failed, Sink};
+use crate::laws::result_lines;
 use crate::line_text::{LineText, error_text, instruction_text};
 use vex_encode::recode;
 use x86_settings::InstDecoder;
@@ -13,6 +14,8 @@ use x86_settings::InstDecoder;
 fn result_text(settings: &InstDecoder, bytes: &[u8]) -> LineText
     ensures { result.items ≡ result_line settings.now bytes.now }
 {
+    // The laws of result lines.
+    result_lines();
     match recode(settings, bytes) {
         Ok((instruction, spelling)) => instruction_text(&instruction, &spelling),
         Err(error) => error_text(error.name()),

@@ -1,5 +1,5 @@
 -- Which addresses bytes can name: those whose base and index fit.
-use Rattle.std.proofs.Common.{◌≡◌, inl, inr, ℕ, zero, suc, ◌+◌, ◌*◌, ◌<◌, ◌≤◌, Bool, true, false, List, ◌∷◌, length, Option, Some, None, FitsSigned, w32, refl, sym, ap, ◌∙◌, subst, arith}
+use Rattle.std.proofs.Common.{◌≡◌, inr, ℕ, ◌+◌, ◌*◌, ◌<◌, ◌≤◌, Bool, true, false, List, ◌∷◌, length, Option, Some, None, FitsSigned, w32, refl, sym, ap, ◌∙◌, subst, arith}
 use Rattle.x86_operand.specs.declared.register.RegisterBank.{RegisterBank}
 use Rattle.x86_operand.specs.declared.register.RegisterBank.TheVariants.{Q, D, X, Y, Z, RIP}
 use Rattle.x86_operand.specs.declared.address.Address.{Address}
@@ -9,24 +9,11 @@ use Rattle.x86_operand.specs.Kind.{Kind, InMemory, VectorIndexed, is_vector, pla
 use Rattle.x86_address.specs.Bytes.{Displacement, Absent, Short, Long}
 use Rattle.x86_address.specs.Place.{Place, NoPlace, Direct, Based, RipBased, Scaled, Baseless, IsPlace, kind_of, mod_of_displacement, mod_of, rm_of, tail_of, place_bytes, Base, NoBase, Rip, Numbered, PlainAddress, At}
 use Rattle.x86_address.specs.Shortest.{plain, plain_base, plain_index, base_in, base_register, index_register, shortest, x_of, b_of, IsBase, IsIndex, IsSpellableAddress}
-use Rattle.x86_address.specs.Spells.{SpellsAddress, BankFits, BaseFits, IsScale, IsPower, IndexFits, HasModRM}
-use Rattle.x86_address.proofs.PlaceBytes.{place_bytes_split, rm_of_below}
-use Rattle.x86_address.proofs.Shortest.{is_place-shortest, kind_of-shortest, plain-in_banks}
+use Rattle.x86_address.specs.Spells.{SpellsAddress, BankFits, BaseFits, IndexFits, HasModRM}
+use Rattle.x86_address.specs.Spells.Laws.{scale_of_power}
+use Rattle.x86_address.specs.Place.Laws.{place_bytes_split, rm_of_below}
+use Rattle.x86_address.specs.Shortest.Laws.{is_place-shortest, kind_of-shortest, plain-in_banks}
 use Rattle.x86_address.proofs.Spelling.{only_spellable, shortest_spells, shortest_is_least}
-
--- each scale that SIB can say is a power of 2, and each such power is one
-pub power_of_scale : (scale : ℕ) → IsScale scale → IsPower scale
-power_of_scale scale (inl e) = (0, omega arith, e)
-power_of_scale scale (inr (inl e)) = (1, omega arith, e)
-power_of_scale scale (inr (inr (inl e))) = (2, omega arith, e)
-power_of_scale scale (inr (inr (inr e))) = (3, omega arith, e)
-
-pub scale_of_power : (scale : ℕ) → IsPower scale → IsScale scale
-scale_of_power scale (zero, below, e) = inl e
-scale_of_power scale (suc zero, below, e) = inr (inl e)
-scale_of_power scale (suc (suc zero), below, e) = inr (inr (inl e))
-scale_of_power scale (suc (suc (suc zero)), below, e) = inr (inr (inr e))
-scale_of_power scale (suc (suc (suc (suc n))), below, e) = absurd (omega arith)
 
 -- an index that fits is in bank Q
 index_again : (vector : Bool) (index : Option Index) → IndexFits vector index → index_register Q (plain_index index) ≡ index

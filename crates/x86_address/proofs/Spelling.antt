@@ -1,16 +1,14 @@
 -- The bytes that spell a target: they are the bytes of one place.
-use Rattle.std.proofs.Common.{◌≡◌, ◌≢◌, ◌⊎◌, inl, inr, ⊎_elim, ℕ, ◌/◌, ◌%◌, ◌<◌, Ok, arith, ◌≤◌, Bool, true, List, [], ◌∷◌, ◌++◌, length, refl, sym, ap, ◌∙◌, subst, subst₂, append-nil}
+use Rattle.std.proofs.Common.{◌≡◌, ◌≢◌, ◌⊎◌, inl, inr, ⊎_elim, ℕ, ◌<◌, ◌≤◌, Bool, true, List, [], ◌++◌, length, refl, sym, ap, ◌∙◌, subst, subst₂, append-nil}
 use Rattle.x86_operand.specs.Kind.{Kind, WithoutModRM, InRegister, InMemory, is_vector, plain_kind}
 use Rattle.x86_address.specs.Place.{Place, NoPlace, IsPlace, kind_of, mod_of, rm_of, tail_of, place_bytes, Target, kind_of_target, target, SpellsTarget}
-use Rattle.x86_address.specs.Place.Laws.{vector_in_memory, plain_without}
-use Rattle.x86_address.specs.Reading.{take_place}
 use Rattle.x86_address.specs.Shortest.{shortest, x_of, b_of, IsSpellable}
-use Rattle.x86_address.specs.Laws.{OnlySpellable, ShortestSpells, ShortestIsLeast, XIsFixed, BIsFixed, DemandedIsSet, ReadingIsSpelling, ReadingFails, OnePlace, OneReading}
-use Rattle.x86_address.proofs.Fields.{same_fields}
-use Rattle.x86_address.proofs.Reader.{same_read}
-use Rattle.x86_address.proofs.Reading.{take_place-again, take_place-fails, modrm-written, modrm-again}
-use Rattle.x86_address.proofs.PlaceBytes.{has_modrm, place_bytes_split, rm_of_below, place_bytes_none}
-use Rattle.x86_address.proofs.Shortest.{is_place-shortest, kind_of-shortest, kind_of_target-target, names-shortest, sib-shortest, IsSpellable-target, shortest-least, x_fixed_or_ignored, b_fixed_or_ignored, x_of-target, b_of-target}
+use Rattle.x86_address.specs.Laws.{OnlySpellable, ShortestSpells, ShortestIsLeast, XIsFixed, BIsFixed, DemandedIsSet, ReadingFails, OnePlace, OneReading}
+use Rattle.x86_address.specs.Bytes.Laws.{same_fields}
+use Rattle.x86_address.specs.Reading.Laws.{same_read}
+use Rattle.x86_address.specs.Reading.Places.{take_place-again, take_place-fails, same_parts}
+use Rattle.x86_address.specs.Place.Laws.{vector_in_memory, plain_without, has_modrm, place_bytes_split, rm_of_below, place_bytes_none}
+use Rattle.x86_address.specs.Shortest.Laws.{is_place-shortest, kind_of-shortest, kind_of_target-target, names-shortest, sib-shortest, IsSpellable-target, shortest-least, x_fixed_or_ignored, b_fixed_or_ignored, x_of-target, b_of-target}
 
 -- what bytes spell is in range, and of their kind
 pub only_spellable : OnlySpellable
@@ -68,10 +66,6 @@ same_place p p' rest rest' ok ok' has has' mods rms tails =
     let one = same_read {x = (p, rest)} {y = (p', rest')} (sym (take_place-again p rest ok has) ∙ rw (mods, rms, tails) (take_place-again p' rest' ok' has')) in
     (ap (λ read. read.0) one, ap (λ read. read.1) one)
 
--- lists that are one have one head and one tail
-same_parts : (a b : ℕ) (rest others : List ℕ) → a ∷ rest ≡ b ∷ others → (a ≡ b) × (rest ≡ others)
-same_parts a b rest others h = (cc, cc)
-
 -- places with a ModRM byte whose bytes begin one string are one, with one reg field
 pub place_bytes-prefix : (reg reg' : ℕ) (p p' : Place) (rest rest' : List ℕ) → reg < 8 → reg' < 8 → IsPlace p → IsPlace p' → (kind_of p ≡ InRegister) ⊎ (kind_of p ≡ InMemory) → (kind_of p' ≡ InRegister) ⊎ (kind_of p' ≡ InMemory) → place_bytes reg p ++ rest ≡ place_bytes reg' p' ++ rest' → (reg ≡ reg') × (p ≡ p') × (rest ≡ rest')
 place_bytes-prefix reg reg' p p' rest rest' below below' ok ok' has has' same =
@@ -102,24 +96,6 @@ one_reading bytes more kind kind' reg reg' x b e e' modrm s s' =
     let has' = has_modrm s'.place (modrm_follows reg reg' s.place s'.place more has same) in
     let one = place_bytes-prefix reg reg' s.place s'.place more [] s.is_reg s'.is_reg s.is_place s'.is_place has has' (same ∙ sym (append-nil _)) in
     (one.2, one.0, sym s.is_kind.plain ∙ ap kind_of one.1 ∙ s'.is_kind.plain, λ kinds. s.names ∙ ap (λ p. target (is_vector kind) p x b) one.1 ∙ ap (λ k. target (is_vector k) s'.place x b) kinds ∙ sym s'.names)
-
--- the bytes of a place are read as that place
-read_modrm : (modrm : ℕ) (bytes : List ℕ) (p : Place) (rest : List ℕ) → modrm < 256 → IsPlace p → (kind_of p ≡ InRegister) ⊎ (kind_of p ≡ InMemory) → modrm ∷ bytes ≡ place_bytes ((modrm / 8) % 8) p ++ rest → take_place (modrm / 64) (modrm % 8) bytes ≡ Ok (p, rest)
-read_modrm modrm bytes p rest below ok has same =
-    let reg = (modrm / 8) % 8 in
-    let parts = same_parts modrm _ bytes (tail_of p ++ rest) (subst (λ others. modrm ∷ bytes ≡ others ++ rest) (place_bytes_split reg p has) same) in
-    rw parts.1 (modrm-again reg p modrm rest (omega arith) ok has parts.0)
-
--- a register or memory has a ModRM byte
-with_modrm : (kind : Kind) → (kind ≡ InRegister) ⊎ (kind ≡ InMemory) → kind ≢ WithoutModRM
-with_modrm kind has = λ none. grind arith
-
--- reading and spelling are one
-pub reading_is_spelling : ReadingIsSpelling
-reading_is_spelling modrm bytes p rest below ok = (
-  (λ h. let read = modrm-written modrm bytes below ok p rest h in (read.is_place, with_modrm _ read.has_modrm, read.written)),
-  (λ h. read_modrm modrm bytes p rest below h.0 (has_modrm p h.1) h.2),
-)
 
 -- reading fails only where no byte is left
 pub reading_fails : ReadingFails

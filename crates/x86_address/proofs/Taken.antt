@@ -10,18 +10,17 @@ use Rattle.x86_operand.specs.declared.register.RegisterBank.TheVariants.{Q}
 use Rattle.x86_reader.specs.Reader.{ReaderState, IsByte, Takes, Stops, Passes}
 use Rattle.x86_address.specs.Bytes.{IsBytes, Short, Long}
 use Rattle.x86_address.specs.Place.{Place, kind_of, IsOfKind, tail_of, PlainAddress, Target, NoTarget, Number, At, kind_of_target, target, SpellsTarget}
-use Rattle.x86_address.specs.Place.Laws.{sib_by_rm}
 use Rattle.x86_address.specs.Shortest.{plain, in_banks}
 use Rattle.x86_address.specs.Reading.{Reading, take_byte, take_doubleword, take_displacement, take_baseless, take_scaled, take_sib, take_place}
 use Rattle.x86_address.specs.Most.Laws.{most_place}
 use Rattle.x86_address.specs.Follows.{Same, Follows}
 use Rattle.x86_address.specs.Follows.Laws.{takes_all, fails_at_end, most_taken, follows_true, follows_false}
 use Rattle.x86_address.specs.Reads.{NamesAddress, SpelledBy, CutShort}
-use Rattle.x86_address.proofs.Fields.{low_field_below}
-use Rattle.x86_address.proofs.PlaceBytes.{IsBytes-append, has_modrm, place_bytes_split, place_bytes_none}
-use Rattle.x86_address.proofs.Reader.{same_read}
-use Rattle.x86_address.proofs.Reading.{take_byte-fails, take_place-fails, modrm-written, modrm-again}
-use Rattle.x86_address.proofs.Shortest.{kind_of_target-target}
+use Rattle.x86_address.specs.Bytes.Laws.{IsBytes-append, low_field_below}
+use Rattle.x86_address.specs.Place.Laws.{sib_by_rm, has_modrm, place_bytes_split, place_bytes_none}
+use Rattle.x86_address.specs.Reading.Laws.{same_read}
+use Rattle.x86_address.specs.Reading.Places.{take_byte-fails, take_place-fails, modrm-written, modrm-again, same_parts}
+use Rattle.x86_address.specs.Shortest.Laws.{kind_of_target-target}
 use Rattle.x86_address.proofs.Completing.{fails_before, completable_place}
 
 -- bytes that were taken are bytes
@@ -112,10 +111,6 @@ below_sib mode (sib ∷ bytes) h =
 below_place : (mode rm : ℕ) → FailsBelow 5 (take_place mode rm)
 below_place mode rm =
     below_if (mode == 3) _ _ (λ bytes h. cc) (below_if (rm == 4) _ _ (below_sib mode) (below_if (mode == 0 && rm == 5) _ _ (λ bytes h. omega (arith, below_doubleword bytes (fails_before _ (take_doubleword bytes) h))) (λ bytes h. omega (arith, below_displacement mode bytes (fails_before _ (take_displacement mode bytes) h)))))
-
--- lists that are one have one head and one tail
-same_parts : (a b : ℕ) (rest others : List ℕ) → a ∷ rest ≡ b ∷ others → (a ≡ b) × (rest ≡ others)
-same_parts a b rest others h = (cc, cc)
 
 -- bytes from ModRM on that spell something are read as a place that takes all of them
 read_whole : {modrm : ℕ} {bytes : List ℕ} {kind : Kind} {reg : ℕ} {x b : Bool} {e : Target} → (s : SpellsTarget (modrm ∷ bytes) kind reg x b e) → take_place (modrm / 64) (modrm % 8) bytes ≡ Ok (s.place, [])

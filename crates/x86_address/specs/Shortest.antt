@@ -1,3 +1,4 @@
+pub mod Laws
 use Rattle.std.specs.Prelude.{◌≡◌, ◌≢◌, ◌<◌, FitsSigned, ℕ, ◌-◌, ◌/◌, ◌%◌, ◌^◌, ℤ, pos, negsuc, Bool, true, false, not, ◌&&◌, ◌||◌, nat_lt, Option, Some, None, ◌==◌, if◌then◌else◌}
 use Rattle.std.specs.Int.{w32}
 use Rattle.x86_operand.specs.declared.register.RegisterBank.{RegisterBank}

@@ -13,4 +13,4 @@ unreachable-requires c = canonical_there _ _ c.in_ok-instruction.ensures.spelled
 pub returns : goal.returns
 returns c =
     let decoded = c.in_ok-instruction.ensures in
-    recodes c.args.decoder.now c.args.bytes.now c.in_ok-instruction.instruction c.in-Some.spelling (decoded.begun.0 refl) decoded.within decoded.spelled decoded.permitted (sym c.canonical_bytes.ensures ∙ c.in-Some.is)
+    recodes c.recode_again.ensures.not_blocked c.args.decoder.now c.args.bytes.now c.in_ok-instruction.instruction c.in-Some.spelling (decoded.begun.0 refl) decoded.within decoded.spelled decoded.permitted (sym c.canonical_bytes.ensures ∙ c.in-Some.is)

@@ -1,4 +1,5 @@
-use Rattle.x86_address.proofs.Spelling.{reading_is_spelling, reading_fails}
+use Rattle.x86_address.specs.Reading.Places.{reading_is_spelling}
+use Rattle.x86_address.proofs.Spelling.{reading_fails}
 use Rattle.x86_address.proofs.laws.reading_is_spelling.Goals as goal
 
 pub returns-clause-spelled : goal.returns-clause-spelled

@@ -1,4 +1,5 @@
--- What each step that reads keeps: which errors it has, and that more bytes after those that it takes change nothing.
+-- What each step that reads keeps, which no contract cites: which errors it has, and that more bytes after those that it
+-- takes change nothing.
 use Rattle.std.proofs.Common.{◌≡◌, ◌≢◌, ℕ, List, [], ◌∷◌, ◌++◌, Ok, Err, Bool, true, false, if◌then◌else◌, ◌<◌, refl, ap, subst}
 use Rattle.x86_operand.specs.declared.error.DecodeError.{DecodeError}
 use Rattle.x86_operand.specs.declared.error.DecodeError.TheVariants.{ExhaustedInput}

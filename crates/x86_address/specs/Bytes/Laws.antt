@@ -1,6 +1,9 @@
--- Bytes that are packed from fields: ModRM, SIB and the bytes of a doubleword.
-use Rattle.std.proofs.Common.{◌≡◌, ℕ, ◌+◌, ◌*◌, ◌/◌, ◌%◌, ◌^◌, ◌<◌, [], ◌∷◌, arith}
-use Rattle.x86_address.specs.Bytes.{doubleword_bytes}
+-- Lemmas on byte strings and on bytes that are packed from fields (ModRM, SIB and the bytes of a doubleword), which no
+-- contract cites.
+use Rattle.std.proofs.Common.{◌≡◌, ℕ, ◌+◌, ◌*◌, ◌/◌, ◌%◌, ◌^◌, ◌<◌, ◌≤◌, List, [], ◌∷◌, ◌++◌, length, arith}
+use Rattle.x86_address.specs.Bytes.{IsBytes, doubleword_bytes, Displacement, Absent, Short, Long, IsDisplacement, displacement_bytes}
+
+-- ---- fields
 
 -- the top two bits of a packed byte
 pub high_field : (m reg rm : ℕ) → reg < 8 → rm < 8 → (64 * m + 8 * reg + rm) / 64 ≡ m
@@ -47,3 +50,36 @@ bytes_of_doubleword a b c d p q r s =
     let third : (n / 65536) % 256 ≡ c = omega arith in
     let highest : (n / 16777216) % 256 ≡ d = omega arith in
     rw (lowest, second, third, highest)
+
+-- ---- byte strings
+
+-- two byte strings joined are one
+pub IsBytes-append : (front back : List ℕ) → IsBytes front → IsBytes back → IsBytes (front ++ back)
+IsBytes-append [] back p q = q
+IsBytes-append (byte ∷ front) back p q = (p.0, IsBytes-append front back p.1 q)
+
+-- the front of a byte string is one
+pub IsBytes-front : (front back : List ℕ) → IsBytes (front ++ back) → IsBytes front
+IsBytes-front [] back p = tt
+IsBytes-front (byte ∷ front) back p = (p.0, IsBytes-front front back p.1)
+
+-- the rest of a byte string is one
+pub IsBytes-back : (front back : List ℕ) → IsBytes (front ++ back) → IsBytes back
+IsBytes-back [] back p = p
+IsBytes-back (byte ∷ front) back p = IsBytes-back front back p.1
+
+-- the bytes of a doubleword are bytes
+pub IsBytes-doubleword_bytes : (n : ℕ) → IsBytes (doubleword_bytes n)
+IsBytes-doubleword_bytes n = (omega arith, (omega arith, (omega arith, (omega arith, tt))))
+
+-- the bytes of a displacement are bytes
+pub IsBytes-displacement_bytes : (d : Displacement) → IsDisplacement d → IsBytes (displacement_bytes d)
+IsBytes-displacement_bytes Absent ok = tt
+IsBytes-displacement_bytes (Short n) ok = (ok, tt)
+IsBytes-displacement_bytes (Long n) ok = IsBytes-doubleword_bytes n
+
+-- a displacement has at most four bytes
+pub displacement_length : (d : Displacement) → length (displacement_bytes d) ≤ 4
+displacement_length Absent = omega arith
+displacement_length (Short n) = omega arith
+displacement_length (Long n) = omega arith

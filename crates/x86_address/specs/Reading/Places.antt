@@ -1,16 +1,18 @@
--- Reading and writing addresses: what is written is read again, and what is read was so written.
-use Rattle.std.proofs.Common.{◌≡◌, ◌≢◌, ◌⊎◌, ℕ, ◌+◌, ◌*◌, ◌/◌, ◌%◌, ◌^◌, ◌<◌, List, [], ◌∷◌, ◌++◌, Ok, Err, Bool, true, false, ◌&&◌, ◌==◌, if◌then◌else◌, refl, sym, ap, ap₂, ◌∙◌, arith, ne_eqb, eqb-true}
+-- Lemmas on reading and writing addresses, which no contract cites: what is written is read again, and what is read was
+-- so written.
+use Rattle.std.proofs.Common.{◌≡◌, ◌≢◌, ◌⊎◌, ℕ, ◌+◌, ◌*◌, ◌/◌, ◌%◌, ◌^◌, ◌<◌, List, [], ◌∷◌, ◌++◌, Ok, Err, Bool, true, false, ◌&&◌, ◌==◌, if◌then◌else◌, refl, sym, ap, ap₂, ◌∙◌, subst, arith, ne_eqb, eqb-true}
 use Rattle.std.proofs.lemmas.Bool.{eqb-false}
 use Rattle.std.proofs.lemmas.Bool.Decides.{nat_tests}
 use Rattle.x86_operand.specs.declared.error.DecodeError.{DecodeError}
 use Rattle.x86_operand.specs.declared.error.DecodeError.TheVariants.{ExhaustedInput}
-use Rattle.x86_operand.specs.Kind.{WithoutModRM, InRegister, InMemory}
+use Rattle.x86_operand.specs.Kind.{Kind, WithoutModRM, InRegister, InMemory}
 use Rattle.x86_address.specs.Bytes.{IsBytes, doubleword_bytes, Displacement, Absent, Short, Long, IsDisplacement, displacement_bytes}
 use Rattle.x86_address.specs.Place.{Place, NoPlace, Direct, Based, RipBased, Scaled, Baseless, MayBeBase, IsPlace, kind_of, mod_of_displacement, mod_of, rm_of, tail_of, place_bytes}
 use Rattle.x86_address.specs.Reading.{take_byte, take_doubleword, take_short, take_long, take_displacement, take_baseless, take_scaled, take_sib, take_rip_based, take_based, take_place}
-use Rattle.x86_address.proofs.Fields.{doubleword_of_bytes, bytes_of_doubleword, high_field, middle_field, low_field, high_field_below, low_field_below, packed}
-use Rattle.x86_address.proofs.PlaceBytes.{has_modrm, place_bytes_split, rm_of_below}
-use Rattle.x86_address.proofs.Reader.{IsReader, IsReader-ok, IsReader-bind, IsReader-if, Exhausts, Answers, Answers-ok, Answers-bind, Answers-if, ReadsByte, take_byte-written, IsReader-take_byte}
+use Rattle.x86_address.specs.Laws.{ReadingIsSpelling}
+use Rattle.x86_address.specs.Bytes.Laws.{doubleword_of_bytes, bytes_of_doubleword, high_field, middle_field, low_field, high_field_below, low_field_below, packed}
+use Rattle.x86_address.specs.Place.Laws.{has_modrm, place_bytes_split, rm_of_below}
+use Rattle.x86_address.specs.Reading.Laws.{IsReader, IsReader-ok, IsReader-bind, IsReader-if, Exhausts, Answers, Answers-ok, Answers-bind, Answers-if, ReadsByte, take_byte-written, IsReader-take_byte}
 
 -- a doubleword that is written is read again
 pub take_doubleword-again : (n : ℕ) (rest : List ℕ) → n < 2 ^ 32 → take_doubleword (doubleword_bytes n ++ rest) ≡ Ok (n, rest)
@@ -237,3 +239,25 @@ take_doubleword-more bytes more n rest = IsReader-take_doubleword.more bytes mor
 -- bytes after those that are read change nothing
 pub take_place-more : (mode rm : ℕ) (bytes more : List ℕ) (p : Place) (rest : List ℕ) → take_place mode rm bytes ≡ Ok (p, rest) → take_place mode rm (bytes ++ more) ≡ Ok (p, rest ++ more)
 take_place-more mode rm bytes more p rest = (IsReader-take_place mode rm).more bytes more (p, rest)
+
+-- lists that are one have one head and one tail
+pub same_parts : (a b : ℕ) (rest others : List ℕ) → a ∷ rest ≡ b ∷ others → (a ≡ b) × (rest ≡ others)
+same_parts a b rest others h = (cc, cc)
+
+-- the bytes of a place are read as that place
+read_modrm : (modrm : ℕ) (bytes : List ℕ) (p : Place) (rest : List ℕ) → modrm < 256 → IsPlace p → (kind_of p ≡ InRegister) ⊎ (kind_of p ≡ InMemory) → modrm ∷ bytes ≡ place_bytes ((modrm / 8) % 8) p ++ rest → take_place (modrm / 64) (modrm % 8) bytes ≡ Ok (p, rest)
+read_modrm modrm bytes p rest below ok has same =
+    let reg = (modrm / 8) % 8 in
+    let parts = same_parts modrm _ bytes (tail_of p ++ rest) (subst (λ others. modrm ∷ bytes ≡ others ++ rest) (place_bytes_split reg p has) same) in
+    rw parts.1 (modrm-again reg p modrm rest (omega arith) ok has parts.0)
+
+-- a register or memory has a ModRM byte
+with_modrm : (kind : Kind) → (kind ≡ InRegister) ⊎ (kind ≡ InMemory) → kind ≢ WithoutModRM
+with_modrm kind has = λ none. grind arith
+
+-- reading and spelling are one
+pub reading_is_spelling : ReadingIsSpelling
+reading_is_spelling modrm bytes p rest below ok = (
+  (λ h. let read = modrm-written modrm bytes below ok p rest h in (read.is_place, with_modrm _ read.has_modrm, read.written)),
+  (λ h. read_modrm modrm bytes p rest below h.0 (has_modrm p h.1) h.2),
+)

@@ -1,4 +1,5 @@
--- The shortest place of a target: it is a place, it names what any place names, and none is shorter.
+-- Lemmas on the shortest place of a target, which no contract cites: it is a place, it names what any place names, and
+-- none is shorter.
 use Rattle.std.proofs.Common.{◌≡◌, ◌≢◌, ◌⊎◌, inl, inr, ℕ, zero, suc, ◌+◌, ◌-◌, ◌*◌, ◌%◌, ◌^◌, ◌<◌, ◌≤◌, ℤ, pos, negsuc, Bool, true, false, not, ◌&&◌, ◌||◌, nat_lt, ◌==◌, length, Option, Some, None, if◌then◌else◌, FitsSigned, refl, sym, ap, ◌∙◌, subst, arith, ne_eqb, eqb-true, eq-eqb, ltb-true, ltb-false, rules, w8, w32}
 use Rattle.std.specs.Int.{cast_signed}
 use Rattle.std.proofs.lemmas.Bool.{eqb-false, cond_both, or_parts}
@@ -8,7 +9,7 @@ use Rattle.x86_operand.specs.Kind.{InMemory}
 use Rattle.x86_operand.specs.declared.register.RegisterBank.{RegisterBank}
 use Rattle.x86_address.specs.Bytes.{bit, Displacement, Absent, Short, Long, IsDisplacement, displacement_bytes, displacement_value}
 use Rattle.x86_address.specs.Place.{Place, NoPlace, Direct, Based, RipBased, Scaled, Baseless, MayBeBase, IsPlace, kind_of, has_sib, place_bytes, Base, NoBase, Rip, Numbered, PlainAddress, Target, NoTarget, Number, At, kind_of_target, index_of, target}
-use Rattle.x86_address.proofs.PlaceBytes.{displacement_length}
+use Rattle.x86_address.specs.Bytes.Laws.{displacement_length}
 use Rattle.x86_address.specs.Shortest.{plain, plain_base, plain_index, in_banks, base_register, index_register, doubleword_of, shortest_displacement, exponent_of, exponent_field, index_field, has_index, place_of_numbered, place_of_base, shortest, is_upper, x_of_index, b_of_base, x_of, b_of, IsBase, MayBeIndex, IsIndex, IsSpellable}
 
 -- ---- displacements
