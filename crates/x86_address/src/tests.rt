@@ -3,7 +3,10 @@
 ghost use Rattle.std.specs.Prelude.{◌≡◌, ◌↔◌, ◌≤◌, ◌<◌, ◌/◌, ◌%◌, IsErr};
 ghost use Rattle.x86_address.specs.Reading.{take_place};
 
-use crate::{read_address, read_imm, read_modrm, shortest_address};
+use crate::{
+    read_address, read_imm, read_modrm, read_vector_address, shortest_address,
+    shortest_vector_address,
+};
 use std::process::Abort;
 use x86_operand::{Address, DecodeError, Index, RegSpec, RegisterBank};
 use x86_reader::{FailReader, Reader, U8Reader};
@@ -311,6 +314,136 @@ fn no_bytes_spell_what_has_no_place_in_modrm_and_sib(rt: HostRuntime) {
     ];
     for address in addresses {
         assert_eq!(rt; shortest_address(&address), None, "{address:?}");
+    }
+}
+
+/// Bytes from SIB on with the field mod and the prefix bits that they stand with, the address that they spell with a
+/// vector register as its index, and its shortest bytes with their bit B.
+#[derive(Drop)]
+struct VectorCase<'a> {
+    mode: u8,
+    after: &'a [u8],
+    x: bool,
+    b: bool,
+    address: Address,
+    shortest: &'a [u8],
+    shortest_b: bool,
+}
+
+/// The answer over the bytes of a slice, where ModRM has the field mod of the case and SIB follows.
+fn vector_address_of(case: &VectorCase, bytes: &[u8]) -> (Result<Address, DecodeError>, u64)
+    requires { case.now.mode < 3 }
+{
+    let mut words = U8Reader::new(bytes);
+    let outcome = read_vector_address(&mut words, 64 * case.mode + 4, case.x, case.b);
+    (outcome, words.total_offset())
+}
+
+/// The bytes give the address, no beginning of them gives one, and the address has its shortest bytes.
+fn is_read_and_written_with_a_vector(rt: &impl Abort, case: &VectorCase)
+    requires { case.now.mode < 3 }
+{
+    let bytes = case.after;
+    let (outcome, taken) = vector_address_of(case, bytes);
+    assert_eq!(rt; outcome, Ok(case.address), "{bytes:?}");
+    assert_eq!(rt; taken, bytes.len() as u64, "{bytes:?}");
+    for cut in 0..bytes.len() {
+        let (outcome, taken) = vector_address_of(case, &bytes[..cut]);
+        assert_eq!(rt;
+            outcome,
+            Err(DecodeError::ExhaustedInput),
+            "{bytes:?} up to {cut}"
+        );
+        assert_eq!(rt; taken, cut as u64, "{bytes:?} up to {cut}");
+    }
+    let found = shortest_vector_address(&case.address).expect(rt, "no bytes spell the address");
+    assert_eq!(rt; (found.x, found.b), (case.x, case.shortest_b), "{bytes:?}");
+    assert_eq!(rt; found.bytes.as_slice(), case.shortest);
+}
+
+#[test]
+fn a_vector_register_with_the_number_4_is_an_index(rt: HostRuntime) {
+    let cases = [
+        // Without and with X.
+        VectorCase {
+            mode: 0,
+            after: &[0x20],
+            x: false,
+            b: false,
+            address: address(general(0), index(4, 1), 0),
+            shortest: &[0x04, 0x20],
+            shortest_b: false,
+        },
+        VectorCase {
+            mode: 0,
+            after: &[0x20],
+            x: true,
+            b: false,
+            address: address(general(0), index(12, 1), 0),
+            shortest: &[0x04, 0x20],
+            shortest_b: false,
+        },
+        // Base 13 with its displacement, and a displacement 0 of four bytes.
+        VectorCase {
+            mode: 1,
+            after: &[0x65, 0x80],
+            x: false,
+            b: true,
+            address: address(general(13), index(4, 2), -128),
+            shortest: &[0x44, 0x65, 0x80],
+            shortest_b: true,
+        },
+        VectorCase {
+            mode: 2,
+            after: &[0xa5, 0, 0, 0, 0],
+            x: false,
+            b: true,
+            address: address(general(13), index(4, 4), 0),
+            shortest: &[0x44, 0xa5, 0],
+            shortest_b: true,
+        },
+        // No base, where B plays no part.
+        VectorCase {
+            mode: 0,
+            after: &[0xe5, 0, 0, 0, 0],
+            x: false,
+            b: true,
+            address: address(None, index(4, 8), 0),
+            shortest: &[0x04, 0xe5, 0, 0, 0, 0],
+            shortest_b: false,
+        },
+        // Another index.
+        VectorCase {
+            mode: 2,
+            after: &[0x88, 0x78, 0x56, 0x34, 0x12],
+            x: true,
+            b: false,
+            address: address(general(0), index(9, 4), 305_419_896),
+            shortest: &[0x84, 0x88, 0x78, 0x56, 0x34, 0x12],
+            shortest_b: false,
+        },
+    ];
+    for case in &cases {
+        is_read_and_written_with_a_vector(&rt, case);
+    }
+}
+
+#[test]
+fn no_bytes_spell_a_vector_index_that_is_not_there_or_has_no_place(rt: HostRuntime) {
+    let vector_index = match RegSpec::of(RegisterBank::X, 1) {
+        Some(reg) => Some(Index { reg, scale: 1 }),
+        None => None,
+    };
+    let addresses = [
+        address(general(0), None, 0),
+        address(None, None, 0),
+        address(instruction_pointer(), index(1, 1), 0),
+        address(general(0), index(4, 3), 0),
+        // A caller hands the register's number in as one of bank Q.
+        address(general(0), vector_index, 0),
+    ];
+    for address in addresses {
+        assert_eq!(rt; shortest_vector_address(&address), None, "{address:?}");
     }
 }
 
