@@ -2,7 +2,8 @@
 //!
 //! A line has a form, in which rows it stands, what these ask of the field vvvv, the slots, and the size of the memory
 //! operand, as the manual has them in the encodings of the operands (Intel SDM volume 2, section 3.1.1.4) but for what
-//! docs/DIFFERENCES.md names. Nothing here is made from the table of forms.
+//! docs/DIFFERENCES.md names. Nothing here is made from the table of forms. With an opcode that no entry of the form
+//! has, the size of the line counts.
 
 use crate::VvvvRule::{Free, Named, Zero};
 use crate::{RowLayout, Slot, VvvvRule};
