@@ -25,3 +25,5 @@ pub use slot::{Slot, VvvvRule};
 mod reading_tests;
 #[cfg(test)]
 mod tests;
+#[cfg(test)]
+mod wanted;

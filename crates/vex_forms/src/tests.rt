@@ -1,1 +1,73 @@
-//! The rows of the table's entries are tested through the encoder and the program.
+//! What no clause says: the slots, sizes and banks of every form, as the manual has them but for what
+//! docs/DIFFERENCES.md names.
+
+use crate::wanted::{Asked, lines, wanted};
+use crate::{laws, layout};
+use std::process::Abort;
+use vex_rows::{Entry, Form, Map, Pp, Rule};
+use x86_operand::Opcode;
+
+/// An entry of that form and opcode, which every W and L allow. Where it stands plays no part in its layout.
+fn entry(form: Form, opcode: Opcode) -> Entry {
+    Entry {
+        map: Map::Map0F,
+        pp: Pp::Plain,
+        byte: 0,
+        w: Rule::Any,
+        l: Rule::Any,
+        form,
+        opcode,
+    }
+}
+
+/// The layout of a row is that of the second copy.
+fn is_laid_out(rt: &impl Abort, asked: &Asked) {
+    let entry = entry(asked.form, asked.opcode);
+    let row = layout(&entry, asked.w, asked.l, asked.memory, asked.group);
+    assert_eq!(rt; row, wanted(asked), "{asked:?}");
+}
+
+/// The rows of a form, an opcode and a reg field, at each W, L and kind of the operand E.
+fn rows_are_laid_out(rt: &impl Abort, form: Form, opcode: Opcode, group: u8) {
+    for (w, l) in [(false, false), (false, true), (true, false), (true, true)] {
+        for memory in [false, true] {
+            let asked = Asked {
+                form,
+                opcode,
+                w,
+                l,
+                memory,
+                group,
+            };
+            is_laid_out(rt, &asked);
+        }
+    }
+}
+
+/// The rows of a form with each opcode, and with each reg field.
+fn form_is_laid_out(rt: &impl Abort, form: Form) {
+    // Each form that has groups has the group 2.
+    for opcode in Opcode::all() {
+        rows_are_laid_out(rt, form, *opcode, 2);
+    }
+    for group in 0..8 {
+        rows_are_laid_out(rt, form, Opcode::Invalid, group);
+    }
+}
+
+#[test]
+fn every_form_is_laid_out_as_the_manual_has_it(rt: HostRuntime) {
+    let mut seen = [false; 69];
+    for line in lines() {
+        seen[line.form as usize] = true;
+        form_is_laid_out(&rt, line.form);
+    }
+    assert!(rt; seen.iter().all(|form| *form));
+}
+
+#[test]
+fn laws_can_be_called() {
+    laws::slots_are_few();
+    laws::slots_fit_steps();
+    laws::rows_are_choices();
+}

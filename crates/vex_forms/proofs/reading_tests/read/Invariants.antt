@@ -1,0 +1,5 @@
+-- The ledger is that of the blank.
+use Rattle.vex_forms.proofs.reading_tests.read.Given as goal
+
+abbrev pub ghosts-read_by : goal.ghosts-read_by
+ghosts-read_by a = record { name = a.blank.name; parts = a.blank.parts }
