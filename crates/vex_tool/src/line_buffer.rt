@@ -8,7 +8,7 @@ ghost use Rattle.vex_tool.specs.LineMachine.{pushed, stepped, line_after, kept_r
 use crate::command::Command;
 use crate::ends::Sink;
 use crate::halt::Halt;
-use crate::report::{LineError, MAX_LINE, write_error, write_report};
+use crate::report::{CodeRoom, LineError, MAX_LINE, write_error, write_report};
 use arrayvec::ArrayVec;
 use std::alloc::Global;
 use std::marker::Model;
@@ -84,13 +84,14 @@ fn answer<K: Sink>(
     alloc: Global,
     command: &Command,
     line: &LineBuffer,
+    room: &mut CodeRoom,
     sink: &mut K,
 ) -> Result<(), Halt>
     ensures { Answers (λ written. (written ≡ []) × IsSomeAnd line.now (MayLackMemory command.now)) result
         (K.text sink.old) (K.text sink.new) (K.faults sink.old) (K.faults sink.new) (kept_report (report command.now) line.now) }
 {
     match line.line() {
-        Some(bytes) => write_report(alloc, command, bytes, sink),
+        Some(bytes) => write_report(alloc, command, bytes, room, sink),
         None => {
             write_error(LineError::LongLine, sink)?;
             Ok(())
@@ -105,6 +106,7 @@ fn take_byte<K: Sink>(
     command: &Command,
     line: &mut LineBuffer,
     byte: u8,
+    room: &mut CodeRoom,
     sink: &mut K,
 ) -> Result<(), Halt>
     ensures kept { OnOk result (line.new ≡ stepped line.old byte) }
@@ -115,7 +117,7 @@ fn take_byte<K: Sink>(
         line.push(byte);
         return Ok(());
     }
-    answer(alloc, command, line, sink)?;
+    answer(alloc, command, line, room, sink)?;
     line.clear();
     Ok(())
 }
@@ -127,6 +129,7 @@ pub fn feed<K: Sink>(
     command: &Command,
     line: &mut LineBuffer,
     piece: &[u8],
+    room: &mut CodeRoom,
     sink: &mut K,
 ) -> Result<(), Halt>
     ensures kept { OnOk result (line.new ≡ line_after line.old piece.now) }
@@ -134,7 +137,7 @@ pub fn feed<K: Sink>(
         (K.text sink.old) (K.text sink.new) (K.faults sink.old) (K.faults sink.new) (ended (report command.now) line.old piece.now) }
 {
     for &byte in piece {
-        take_byte(alloc, command, line, byte, sink)?;
+        take_byte(alloc, command, line, byte, room, sink)?;
     }
     Ok(())
 }
@@ -145,6 +148,7 @@ pub fn finish<K: Sink>(
     alloc: Global,
     command: &Command,
     line: &LineBuffer,
+    room: &mut CodeRoom,
     sink: &mut K,
 ) -> Result<(), Halt>
     ensures { Answers (λ written. (written ≡ []) × (line.now ≢ Some []) × IsSomeAnd line.now (MayLackMemory command.now)) result
@@ -153,5 +157,5 @@ pub fn finish<K: Sink>(
     if line.is_empty() {
         return Ok(());
     }
-    answer(alloc, command, line, sink)
+    answer(alloc, command, line, room, sink)
 }

@@ -1,9 +1,10 @@
 //! What is written for a line.
 
-ghost use Rattle.std.specs.Prelude.{◌≡◌, ◌≤◌, ◌/◌, [], length, Ok, Err, IsTrue, MatchResult};
+ghost use Rattle.std.specs.Prelude.{◌≡◌, ◌≤◌, ◌/◌, [], length, take, Ok, Err, IfOk, IsTrue, MatchResult};
+ghost use Rattle.hex.specs.Hex.{decode_of};
 ghost use Rattle.vex_tool.specs.Ends.{Answers, Writes};
 ghost use Rattle.vex_tool.specs.ErrorLine.{error_line};
-ghost use Rattle.vex_tool.specs.Report.{report, code, code_report, digits, is_blank, line_error_name, takes_memory, MayLackMemory};
+ghost use Rattle.vex_tool.specs.Report.{report, code, code_report, digits, or_bad_hex, is_blank, line_error_name, takes_memory, MayLackMemory};
 
 use crate::command::Command;
 use crate::ends::{Failed, Sink};
@@ -48,31 +49,58 @@ fn is_blank(byte: u8) -> bool
     matches!(byte, b' ' | b'\t' | b'\r')
 }
 
-// The line without its spaces, tabs and bytes 13.
-fn digits_of(line: &[u8]) -> ArrayVec<u8, MAX_LINE>
+// Keeps the line without its spaces, tabs and bytes 13.
+fn keep_digits(line: &[u8], kept: &mut ArrayVec<u8, MAX_LINE>)
     requires { length line.now ≤ MAX_LINE }
-    ensures { result.items ≡ digits line.now }
+    ensures { kept.new.items ≡ digits line.now }
 {
-    let mut digits = ArrayVec::new();
+    kept.clear();
     for &byte in line {
         if !is_blank(byte) {
-            digits.push(byte);
+            kept.push(byte);
         }
     }
-    digits
 }
 
-// The bytes that a line writes in hex digits.
-fn bytes_of_line(line: &[u8]) -> Result<ArrayVec<u8, MAX_CODE>, LineError>
-    requires { length line.now ≤ MAX_LINE }
-    ensures { MatchResult result (λ bytes. code line.now ≡ Ok bytes.items) (λ e. code line.now ≡ Err e) }
+// Decodes hex digits to the first places of `bytes`, and answers how many.
+fn decode_digits(text: &[u8], bytes: &mut [u8]) -> Result<usize, LineError>
+    requires { length text.now / 2 ≤ length bytes.now }
+    ensures within { IfOk result (λ n. n ≤ length bytes.new) }
+    ensures decoded { MatchResult result (λ n. or_bad_hex (decode_of text.now) ≡ Ok (take n bytes.new))
+        (λ e. or_bad_hex (decode_of text.now) ≡ Err e) }
 {
-    let digits = digits_of(line);
-    let mut bytes = ArrayVec::from([0u8; MAX_CODE]);
-    bytes.truncate(digits.len() / 2);
-    match hex::decode_to_slice(digits.as_slice(), bytes.as_mut_slice()) {
-        Ok(()) => Ok(bytes),
+    let n = text.len() / 2;
+    match hex::decode_to_slice(text, &mut bytes[..n]) {
+        Ok(()) => Ok(n),
         Err(_) => Err(LineError::BadHex),
+    }
+}
+
+/// Room for the digits of a line and for the bytes that they write. It is made once and lent to each line: to make it
+/// anew, by value, would take longer than all else that a line needs.
+#[derive(Drop)]
+pub struct CodeRoom {
+    digits: ArrayVec<u8, MAX_LINE>,
+    bytes: [u8; MAX_CODE],
+}
+
+impl CodeRoom {
+    /// Room that holds nothing yet.
+    pub fn new() -> CodeRoom {
+        CodeRoom {
+            digits: ArrayVec::new(),
+            bytes: [0; MAX_CODE],
+        }
+    }
+
+    // Decodes the line's digits to the first places of `bytes`, and answers how many.
+    fn decode(&mut self, line: &[u8]) -> Result<usize, LineError>
+        requires { length line.now ≤ MAX_LINE }
+        ensures within { IfOk result (λ n. n ≤ MAX_CODE) }
+        ensures decoded { MatchResult result (λ n. code line.now ≡ Ok (take n self.new.bytes)) (λ e. code line.now ≡ Err e) }
+    {
+        keep_digits(line, &mut self.digits);
+        decode_digits(self.digits.as_slice(), &mut self.bytes)
     }
 }
 
@@ -113,14 +141,15 @@ pub fn write_report<K: Sink>(
     alloc: Global,
     command: &Command,
     line: &[u8],
+    room: &mut CodeRoom,
     sink: &mut K,
 ) -> Result<(), Halt>
     requires { length line.now ≤ MAX_LINE }
     ensures { Answers (λ written. (written ≡ []) × MayLackMemory command.now line.now) result
         (K.text sink.old) (K.text sink.new) (K.faults sink.old) (K.faults sink.new) (report command.now line.now) }
 {
-    match bytes_of_line(line) {
-        Ok(bytes) => write_code_report(alloc, command, bytes.as_slice(), sink),
+    match room.decode(line) {
+        Ok(n) => write_code_report(alloc, command, &room.bytes[..n], sink),
         Err(error) => {
             write_error(error, sink)?;
             Ok(())
