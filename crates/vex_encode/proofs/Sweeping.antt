@@ -1,5 +1,5 @@
 -- A sweep, instruction by instruction.
-use Rattle.std.proofs.Common.{◌≡◌, ℕ, zero, suc, ◌+◌, ◌-◌, ◌<◌, ◌≤◌, Bool, List, [], ◌∷◌, ◌++◌, length, take, drop, Some, Ok, Err, refl, sym, ap, ◌∙◌, arith, add-zero, append_assoc, take-append-drop, zero-add}
+use Rattle.std.proofs.Common.{◌≡◌, ℕ, ◌+◌, ◌<◌, ◌≤◌, Bool, List, [], ◌∷◌, ◌++◌, length, take, drop, Some, Ok, Err, refl, sym, ap, ◌∙◌, arith, add-zero, append_assoc, take-append-drop, zero-add}
 use Rattle.std.specs.Prelude.{All}
 use Rattle.std.proofs.lemmas.List.{append-nil, drop-drop, drop_all, length-append, length-drop, length-take-le, take_all}
 use Rattle.std.proofs.lemmas.List.Elements.{All-nil, All-push}
@@ -10,42 +10,8 @@ use Rattle.x86_operand.specs.Meaning.{Decoded}
 use Rattle.x86_address.specs.Bytes.{Begins}
 use Rattle.vex_decode.specs.Blocked.{blocked}
 use Rattle.vex_encode.specs.declared.sweeper.SweepEnd.TheVariants.{End, Stopped}
-use Rattle.vex_encode.specs.Sweep.{AreInPlace, EndsAfter, IsPermitted, Swept, SweptItem, first_of_bytes, item_at, joined, onto, swept, swept_by, swept_from}
-
--- ---- one instruction after another
-
--- bytes that are passed over
-from-skip : (settings : List Bool) (k place : ℕ) (bytes : List ℕ) → k ≤ length bytes
-    → swept_from settings k place bytes ≡ swept_from settings 0 (place + k) (drop k bytes)
-unfolding swept_from
-from-skip settings zero place bytes within = ap (λ p. swept_from settings 0 p bytes) (sym (add-zero place))
-from-skip settings (suc k) place [] within = absurd (omega arith)
-from-skip settings (suc k) place (b ∷ bs) within =
-    let at : place + 1 + k ≡ place + suc k = omega arith in
-    from-skip settings k (place + 1) bs (omega arith) ∙ ap (λ p. swept_from settings 0 p (drop k bs)) at
-
--- an instruction, and the sweep of what follows it
-from-step : (settings : List Bool) (place : ℕ) (bytes : List ℕ) (decoded : Decoded) → first_of_bytes settings bytes ≡ Ok decoded
-    → 1 ≤ decoded.len → decoded.len ≤ length bytes
-    → swept_from settings 0 place bytes ≡ onto (item_at place bytes decoded) (swept_from settings 0 (place + decoded.len) (drop decoded.len bytes))
-unfolding swept_from
-from-step settings place [] decoded first some within = absurd (omega arith)
-from-step settings place (b ∷ bs) decoded first some within =
-    let n = decoded.len in
-    let more : n ≡ suc (n - 1) = omega arith in
-    let at : place + 1 + (n - 1) ≡ place + n = omega arith in
-    ap (swept_by place (b ∷ bs) (λ decoded. swept_from settings (decoded.len - 1) (place + 1) bs)) first
-    ∙ ap (onto (item_at place (b ∷ bs) decoded))
-    (from-skip settings (n - 1) (place + 1) bs (omega arith)
-    ∙ ap (λ p. swept_from settings 0 p (drop (n - 1) bs)) at
-    ∙ ap (λ k. swept_from settings 0 (place + n) (drop k (b ∷ bs))) (sym more))
-
--- an error
-from-stop : (settings : List Bool) (place : ℕ) (bytes : List ℕ) (error : DecodeError) → first_of_bytes settings bytes ≡ Err error → 0 < length bytes
-    → swept_from settings 0 place bytes ≡ record { items = []; end = Stopped place error }
-unfolding swept_from
-from-stop settings place [] error first some = absurd (omega arith)
-from-stop settings place (b ∷ bs) error first some = ap (swept_by place (b ∷ bs) (λ decoded. swept_from settings (decoded.len - 1) (place + 1) bs)) first
+use Rattle.vex_encode.specs.Sweep.{AreInPlace, EndsAfter, IsPermitted, Swept, SweptItem, first_of_bytes, item_at, joined, onto, swept, swept_from}
+use Rattle.vex_encode.specs.Sweep.Laws.{from-step, from-stop}
 
 -- ---- the items so far
 

@@ -1,0 +1,19 @@
+//! What holds of all runs of instructions, as the contract of a function that does nothing but name the laws that it
+//! follows from.
+
+ghost use Rattle.vex_check.specs.Accepted.{NeedsSayWhereOthersStop, NeedsSayWhoAccepts};
+
+use vex_decode::{reading_is_spelling, vex_opcodes};
+use x86_permit::all_settings_permit_all;
+
+/// Where a run has no fault under all settings: under any settings its sweep ends after all bytes exactly where they have
+/// every bit that the run needs, and else it is stopped, by `InvalidOpcode`, at the least place that needs a bit which
+/// they lack.
+pub fn needs_say_who_accepts()
+    ensures ends { NeedsSayWhoAccepts }
+    ensures stops { NeedsSayWhereOthersStop }
+{
+    all_settings_permit_all();
+    reading_is_spelling();
+    vex_opcodes();
+}
