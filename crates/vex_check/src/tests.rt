@@ -32,24 +32,24 @@ fn a_run_needs_the_bits_of_its_instructions(rt: HostRuntime) -> Result<(), Fail>
         (26, 0, Opcode::RORX),
         (32, 11, Opcode::VCVTPH2PS),
     ];
-    let rows: [(&[u8], &[WantedFirst], usize); 4] = [
-        (&scalars, &of_scalars, 3),
-        (&rounds, &of_rounds, 2),
-        (&five, &of_five, 5),
-        (&[], &[], 0),
+    let nothing = InstDecoder::minimal();
+    let with_f16c = nothing.with_avx().with_aesni().with_f16c();
+    let rows: [(&[u8], &[WantedFirst], InstDecoder, usize); 4] = [
+        (&scalars, &of_scalars, nothing.with_avx().with_bmi2(), 3),
+        (&rounds, &of_rounds, with_f16c, 2),
+        (&five, &of_five, with_f16c.with_bmi1().with_bmi2(), 5),
+        (&[], &[], nothing, 0),
     ];
-    for (bytes, wanted, count) in rows {
+    for (bytes, wanted, least, count) in rows {
         let needs = check(bytes).map_err(|_| "there is a fault")?;
         assert_eq!(rt; needs.count, count);
+        assert!(rt; needs.least == least);
         assert_eq!(rt; needs.firsts.len(), wanted.len());
-        let mut least = InstDecoder::minimal();
         for (first, (bit, place, opcode)) in needs.firsts.as_slice().iter().zip(wanted) {
             assert_eq!(rt; first.bit, *bit);
             assert_eq!(rt; first.place, *place);
             assert!(rt; first.opcode.is(*opcode));
-            least = least.with_bit(*bit);
         }
-        assert!(rt; needs.least == least);
     }
     Ok(())
 }
