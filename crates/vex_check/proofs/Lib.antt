@@ -4,3 +4,4 @@ pub mod Runs
 pub mod Accepting
 pub mod Noting
 pub mod Checking
+pub mod Covering

@@ -1,5 +1,6 @@
 -- What the needs of a run say of its sweep under any settings.
-use Rattle.std.specs.Prelude.{◌≡◌, ◌↔◌, ℕ, ◌≤◌, Bool, false, List, All, Contains, None}
+use Rattle.std.specs.Prelude.{◌≡◌, ◌↔◌, ℕ, ◌≤◌, Bool, false, not, ◌||◌, List, length, All, Contains, None}
+use Rattle.std.specs.List.{list_all, range_with_len}
 use Rattle.x86_operand.specs.declared.error.DecodeError.TheVariants.{InvalidOpcode}
 use Rattle.x86_settings.specs.Bits.{is_set}
 use Rattle.x86_address.specs.Bytes.{IsBytes}
@@ -8,6 +9,10 @@ use Rattle.vex_encode.specs.Sweep.{swept}
 use Rattle.vex_encode.specs.declared.sweeper.SweepEnd.TheVariants.{End, Stopped}
 use Rattle.vex_check.specs.declared.needs.First.{First}
 use Rattle.vex_check.specs.Needs.{all_needed, fault, firsts, run}
+
+-- whether settings have every bit that is wanted, as `AreWithin` says it of the two
+unfoldable pub covers : List Bool → List Bool → Bool
+covers settings wanted = list_all (λ bit. not (is_set wanted bit) || is_set settings bit) (range_with_len 0 (length wanted))
 
 -- a sweep under any settings ends after all bytes exactly where the settings have every bit that is wanted
 abbrev pub EndsWhereCovered : List ℕ → List Bool → Type 0
