@@ -151,7 +151,7 @@ module _ (row other : Row) (m : Meaning) (e : row.entry ≡ other.entry) (k : ro
 -- ---- what a row gives has an address exactly where its operand E is in memory
 
 -- whether a target is an address
-abbrev is_at : Target → Bool
+abbrev pub is_at : Target → Bool
 is_at NoTarget = false
 is_at (Number n) = false
 is_at (At a) = true
@@ -174,7 +174,7 @@ module _ (index_bank : RegisterBank) (r v reg : ℕ) (e : Target) (imm : ℕ) wh
   address_given I8 = refl
   address_given (R4 bank) = refl
 
-  addresses_given : (slots : List Slot) → list_any is_address (map (slot_operand index_bank r v reg e imm) slots) ≡ (list_any names_e slots && is_at e)
+  pub addresses_given : (slots : List Slot) → list_any is_address (map (slot_operand index_bank r v reg e imm) slots) ≡ (list_any names_e slots && is_at e)
   addresses_given [] = refl
   addresses_given (slot ∷ slots) = ap₂ ◌||◌ (address_given slot) (addresses_given slots) ∙ either (names_e slot) (list_any names_e slots) (is_at e) where
     either : (a b c : Bool) → ((a && c) || (b && c)) ≡ ((a || b) && c)
@@ -328,11 +328,11 @@ first_of_l m entry w l memory is = by (steps entry.form).modrm refl memory is wh
   by false h memory is = first-append m (choices_of_kind entry w l WithoutModRM) [] ∙ first_of-none _
 
 -- a form has groups exactly where there are some
-abbrev any_group : List (ℕ × Opcode) → Bool
+abbrev pub any_group : List (ℕ × Opcode) → Bool
 any_group [] = false
 any_group (group ∷ gs) = true
 
-grouped : (form : Form) (l : ℕ) → has_groups form ≡ any_group (groups form l)
+pub grouped : (form : Form) (l : ℕ) → has_groups form ≡ any_group (groups form l)
 unfolding has_groups steps groups form_row
 grouped Nothing l = refl
 grouped _ l = refl
@@ -376,11 +376,6 @@ first_end m f [] zero h = refl
 first_end m f [] (suc i) h = refl
 first_end m f (y ∷ xs) zero h = absurd (omega arith)
 first_end m f (y ∷ xs) (suc i) h = first_end m f xs i (omega arith)
-
--- a group is a value of three bits
-pub group_small : (form : Form) (l : ℕ) (gs : List (ℕ × Opcode)) (i : ℕ) (g : ℕ × Opcode) → gs ≡ groups form l → i < length gs → (get_or gs i g).0 < 8
-group_small form l gs i g e h =
-    small_group form l (get_or gs i g) (subst (λ all. Among (get_or gs i g) all) e (among_at gs i g h))
 
 -- ---- a choice that isn't a row
 

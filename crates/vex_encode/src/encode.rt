@@ -7,7 +7,7 @@ ghost use Rattle.vex_rows.specs.declared.entry.Entry.{Entry};
 ghost use Rattle.vex_rows.specs.Row.{Among, choices, choices_of_l, choices_of_w};
 ghost use Rattle.vex_rows.specs.Groups.{groups};
 ghost use Rattle.vex_rows.specs.Table.{table};
-ghost use Rattle.vex_forms.specs.Layout.{IsLayout};
+ghost use Rattle.vex_forms.specs.Layout.{IsLayout, row_for};
 ghost use Rattle.vex_decode.specs.Spelling.{bytes_of};
 ghost use Rattle.vex_encode.specs.Assembly.{row_chosen};
 ghost use Rattle.vex_encode.specs.Canon.{canon};
@@ -17,6 +17,7 @@ ghost use Rattle.vex_encode.specs.Kind.{kind_seen};
 ghost use Rattle.vex_encode.specs.Standard.{candidate};
 
 use crate::assembly::operand_fields;
+use crate::excluded::is_excluded;
 use crate::fits::can_give;
 use crate::kind::Kind;
 use crate::place::place_of;
@@ -108,6 +109,34 @@ fn groups_of(form: Form) -> ArrayVec<(u8, Opcode), 4>
     row_of_form(form).groups.items()
 }
 
+/// The standard spelling by the row of a group of an entry, at that W and L, where the group is of the instruction's
+/// opcode, and the row exists and can give it.
+fn standard_of_group(
+    entry: &Entry,
+    w: bool,
+    l: bool,
+    memory: bool,
+    group: (u8, Opcode),
+    instruction: &Instruction,
+) -> Option<Spelling>
+    requires listed { Among entry.now table }
+    requires group { Among group (groups entry.now.form (if l then 1 else 0)) }
+    requires memory { memory ≡ list_any is_address instruction.now.meaning.operands }
+    ensures { result ≡ standard_of (row_for entry.now w l memory group.0) instruction.now.meaning }
+{
+    if !instruction.opcode().is(group.1) {
+        return None;
+    }
+    let choice = RowChoice {
+        entry: *entry,
+        w,
+        l,
+        memory,
+        group: group.0,
+    };
+    standard(&choice, instruction)
+}
+
 /// The standard spelling by the first row of an entry at that W and L that can give an instruction. `memory` says
 /// whether it has an address; a row of another kind can't give it.
 fn standard_by_group(
@@ -123,6 +152,9 @@ fn standard_by_group(
     requires memory { memory ≡ list_any is_address instruction.now.meaning.operands }
     ensures { result ≡ first instruction.now.meaning (choices_of_l entry.now w (if l then 1 else 0)) }
 {
+    if is_excluded(entry, w, l, memory, instruction) {
+        return None;
+    }
     if reg_groups.is_empty() {
         let choice = RowChoice {
             entry: *entry,
@@ -134,14 +166,7 @@ fn standard_by_group(
         return standard(&choice, instruction);
     }
     for group in reg_groups {
-        let choice = RowChoice {
-            entry: *entry,
-            w,
-            l,
-            memory,
-            group: group.0,
-        };
-        let found = standard(&choice, instruction);
+        let found = standard_of_group(entry, w, l, memory, *group, instruction);
         if found.is_some() {
             return found;
         }

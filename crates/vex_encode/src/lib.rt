@@ -3,6 +3,7 @@
 
 mod assembly;
 mod encode;
+mod excluded;
 mod fits;
 mod kind;
 pub mod laws;
