@@ -23,36 +23,35 @@ use Rattle.vex_rows.specs.Row.{Row, Among, exists, opcode_of, row_at, group_opco
 use Rattle.vex_rows.specs.Row.Lists.{both-parts, from-flat_map, from-map, from-list_all}
 use Rattle.vex_forms.specs.declared.slot.Slot.{Slot}
 use Rattle.vex_forms.specs.Slots.{slots, slots_at, index_bank, names_e}
-use Rattle.vex_forms.specs.Gives.{gives, slot_operand}
+use Rattle.vex_forms.specs.Gives.{gives, slot_operand, target_operand}
 use Rattle.vex_forms.specs.Layout.{kind_for, row_for}
 use Rattle.vex_decode.specs.Spelling.{Syntax, meant}
 use Rattle.vex_encode.specs.Standard.{candidate, standard}
 use Rattle.vex_encode.specs.Encode.{standard_of, first, is_address}
-use Rattle.vex_encode.specs.Excluded.{OfBank, OfBankAtE, RuleFits, RulesFit, is_optional}
+use Rattle.vex_encode.specs.declared.excluded.Glance.{Glance}
+use Rattle.vex_encode.specs.Excluded.{FitsE, IsGlance, RuleFits, RulesFit, is_optional, shown}
 use Rattle.vex_encode.proofs.Entries.{Made, made, is_at, addresses_given, grouped, any_group}
 use Rattle.vex_encode.proofs.Search.{among_at, first_none}
 
 -- ---- what the first slots of a row are given
 
 module _ (row : Row) (memory : Bool) (ib : RegisterBank) (r v reg : ℕ) (e : Target) (imm : ℕ) (address : is_at e ≡ false → memory ≡ false) where
-  given : Slot → OperandMeaning
-  given = slot_operand ib r v reg e imm
+  e_fits : (bank : RegisterBank) (e : Target) → (is_at e ≡ false → memory ≡ false) → FitsE memory bank (shown (target_operand bank ib e))
+  e_fits bank NoTarget h = tt
+  e_fits bank (Number n) h = (h refl, refl)
+  e_fits bank (At a) h = tt
 
-  e_given : (bank : RegisterBank) (e : Target) → (is_at e ≡ false → memory ≡ false) → OfBankAtE memory bank (slot_operand ib r v reg e imm (Rattle.vex_forms.specs.declared.slot.Slot.TheVariants.E bank))
-  e_given bank NoTarget h = tt
-  e_given bank (Number n) h = (h refl, refl)
-  e_given bank (At a) h = tt
-
-  first_fits : (rule : SlotRule) (rest : List Slot) → RuleFits row memory rule (operand_at (map (slot_operand ib r v reg e imm) (slots_at row rule ++ rest)) 0)
+  first_fits : (rule : SlotRule) (rest : List Slot) → RuleFits row memory rule (shown (operand_at (map (slot_operand ib r v reg e imm) (slots_at row rule ++ rest)) 0))
   first_fits (G bank) rest = refl
   first_fits (V bank) rest = refl
   first_fits (VInRegister bank) rest = tt
-  first_fits (E bank) rest = e_given _ e address
+  first_fits (E bank) rest = e_fits _ e address
   first_fits U8 rest = tt
   first_fits I8 rest = tt
   first_fits (R4 bank) rest = refl
 
-  second_fits : (a b : SlotRule) (rest : List Slot) → is_optional a ≡ false → RuleFits row memory b (operand_at (map (slot_operand ib r v reg e imm) (slots_at row a ++ (slots_at row b ++ rest))) 1)
+  -- behind a slot that all rows have
+  second_fits : (a b : SlotRule) (rest : List Slot) → is_optional a ≡ false → RuleFits row memory b (shown (operand_at (map (slot_operand ib r v reg e imm) (slots_at row a ++ (slots_at row b ++ rest))) 1))
   second_fits (G bank) b rest h = first_fits b rest
   second_fits (V bank) b rest h = first_fits b rest
   second_fits (VInRegister bank) b rest h = cc
@@ -61,27 +60,42 @@ module _ (row : Row) (memory : Bool) (ib : RegisterBank) (r v reg : ℕ) (e : Ta
   second_fits I8 b rest h = first_fits b rest
   second_fits (R4 bank) b rest h = first_fits b rest
 
-  rules_fit : (rules : List SlotRule) → RulesFit row memory rules (map (slot_operand ib r v reg e imm) (flat_map (slots_at row) rules))
+  third_fits : (a b c : SlotRule) (rest : List Slot) → is_optional a ≡ false → is_optional b ≡ false → RuleFits row memory c (shown (operand_at (map (slot_operand ib r v reg e imm) (slots_at row a ++ (slots_at row b ++ (slots_at row c ++ rest)))) 2))
+  third_fits (G bank) b c rest h k = second_fits b c rest k
+  third_fits (V bank) b c rest h k = second_fits b c rest k
+  third_fits (VInRegister bank) b c rest h k = cc
+  third_fits (E bank) b c rest h k = second_fits b c rest k
+  third_fits U8 b c rest h k = second_fits b c rest k
+  third_fits I8 b c rest h k = second_fits b c rest k
+  third_fits (R4 bank) b c rest h k = second_fits b c rest k
+
+  rules_fit : (rules : List SlotRule) → let operands = map (slot_operand ib r v reg e imm) (flat_map (slots_at row) rules) in RulesFit row memory rules (shown (operand_at operands 0)) (shown (operand_at operands 1)) (shown (operand_at operands 2))
   rules_fit [] = tt
   rules_fit (a ∷ []) = first_fits a []
-  rules_fit (a ∷ b ∷ rest) = (first_fits a (flat_map (slots_at row) (b ∷ rest)), second_fits a b (flat_map (slots_at row) rest))
+  rules_fit (a ∷ b ∷ []) = (first_fits a (flat_map (slots_at row) (b ∷ [])), second_fits a b [])
+  rules_fit (a ∷ b ∷ c ∷ rest) = (first_fits a (flat_map (slots_at row) (b ∷ c ∷ rest)), second_fits a b (flat_map (slots_at row) (c ∷ rest)), third_fits a b c (flat_map (slots_at row) rest))
 
 and_false : (a b : Bool) → b ≡ false → (a && b) ≡ false
 and_false true b h = h
 and_false false b h = refl
 
+-- what a glance tells
+abbrev pub Fits : Row → Glance → Type 0
+Fits row glance = RulesFit row glance.memory (items (form_row row.entry.form).slots) glance.first glance.second glance.third
+
 -- what a row gives fits its rules
-given_fits : (row : Row) (m : Meaning) (bytes : List ℕ) (memory : Bool) → memory ≡ list_any is_address m.operands → standard_of row m ≡ Some bytes → RulesFit row memory (items (form_row row.entry.form).slots) m.operands
+given_fits : (row : Row) (m : Meaning) (bytes : List ℕ) (glance : Glance) → IsGlance m.operands glance → standard_of row m ≡ Some bytes → Fits row glance
 unfolding gives slots
-given_fits row m bytes memory is e =
+given_fits row m bytes glance is e =
+    let rules = items (form_row row.entry.form).slots in
     let s = candidate row m in
-    let means = (made row m bytes e).means in
     let t = target (is_vector row.kind) s.place s.fields.x s.fields.b in
-    let operands = ap (λ (m : Meaning). m.operands) means in
-    subst (RulesFit row memory (items (form_row row.entry.form).slots)) operands
-    (rules_fit row memory (index_bank row) s.fields.r s.fields.v s.reg t s.imm
-    (λ h. is ∙ ap (list_any is_address) (sym operands) ∙ addresses_given (index_bank row) s.fields.r s.fields.v s.reg t s.imm (slots row) ∙ and_false (list_any names_e (slots row)) (is_at t) h)
-    (items (form_row row.entry.form).slots))
+    let operands = ap (λ (m : Meaning). m.operands) (made row m bytes e).means in
+    let fits = rules_fit row (list_any is_address m.operands) (index_bank row) s.fields.r s.fields.v s.reg t s.imm
+    (λ h. ap (list_any is_address) (sym operands) ∙ addresses_given (index_bank row) s.fields.r s.fields.v s.reg t s.imm (slots row) ∙ and_false (list_any names_e (slots row)) (is_at t) h)
+    rules in
+    rw (is.memory, is.first, is.second, is.third)
+    (subst (λ operands. RulesFit row (list_any is_address m.operands) rules (shown (operand_at operands 0)) (shown (operand_at operands 1)) (shown (operand_at operands 2))) operands fits)
 
 -- ---- rows that there are none of
 
@@ -112,8 +126,8 @@ other_w row m h = none_there row m (λ bytes e. let yes = (allowed row (there ro
 pub other_l : (row : Row) (m : Meaning) → allows row.entry.l (row.l == 1) ≡ false → standard_of row m ≡ None
 other_l row m h = none_there row m (λ bytes e. let yes = (allowed row (there row m bytes e)).1 in cc)
 
-pub other_operands : (row : Row) (m : Meaning) (memory : Bool) → memory ≡ list_any is_address m.operands → (RulesFit row memory (items (form_row row.entry.form).slots) m.operands → ⊥) → standard_of row m ≡ None
-other_operands row m memory is never = none_there row m (λ bytes e. never (given_fits row m bytes memory is e))
+pub other_operands : (row : Row) (m : Meaning) (glance : Glance) → IsGlance m.operands glance → (Fits row glance → ⊥) → standard_of row m ≡ None
+other_operands row m glance is never = none_there row m (λ bytes e. never (given_fits row m bytes glance is e))
 
 -- ---- no row of an entry at one W and L
 
