@@ -24,7 +24,6 @@ use Rattle.vex_rows.specs.Steps.{steps}
 use Rattle.vex_rows.specs.Groups.{groups}
 use Rattle.vex_rows.specs.Row.{Row, Among, IsRow, exists, has_groups, has_imm, kinds_of, group_choices, row_at, choices, choices_of_kind, choices_of_l, choices_of_w, is_memory}
 use Rattle.vex_rows.specs.Row.Lists.{both-parts, parts-both, from-flat_map, from-map}
-use Rattle.vex_rows.specs.Groups.Laws.{small_group}
 use Rattle.vex_forms.specs.declared.slot.Slot.{Slot}
 use Rattle.vex_forms.specs.declared.slot.Slot.TheVariants.{G, V, E, U8, I8, R4}
 use Rattle.vex_forms.specs.Slots.{slots, slots_at, slots_of, bank_at, names_e}
@@ -40,7 +39,7 @@ use Rattle.vex_encode.specs.Assembly.{kind_by}
 use Rattle.vex_encode.specs.Conditions.{CanGive}
 use Rattle.vex_encode.proofs.Conditions.{fits_given, standard_is_some}
 use Rattle.vex_encode.proofs.Standard.{kind_asked, bytes_length, imm_length}
-use Rattle.vex_encode.proofs.Search.{NoLonger, first-append, first_of-none, first_of_two, first_none, best-first_of_two, among_at}
+use Rattle.vex_encode.proofs.Search.{NoLonger, first-append, first_of-none, first_of_two, first_none, best-first_of_two}
 
 -- ---- the operand E of rows of one entry and one kind stands at the same slot
 

@@ -4,7 +4,6 @@ pub mod Standard
 pub mod Canon
 pub mod CanonLaws
 pub mod Conditions
-pub mod FirstSlot
 pub mod Search
 pub mod Entries
 pub mod PassedOver

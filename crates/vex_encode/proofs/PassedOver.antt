@@ -1,5 +1,5 @@
 -- Rows that a meaning excludes at once have no standard bytes of it.
-use Rattle.std.specs.Prelude.{◌≡◌, refl, ℕ, ◌<◌, length, Bool, true, false, not, ◌&&◌, ◌||◌, ◌==◌, List, [], ◌∷◌, ◌++◌, map, flat_map, Option, Some, None, if◌then◌else◌}
+use Rattle.std.specs.Prelude.{◌≡◌, refl, ℕ, ◌<◌, length, Bool, true, false, ◌&&◌, ◌==◌, List, [], ◌∷◌, ◌++◌, map, flat_map, Option, Some, None, if◌then◌else◌}
 use Rattle.std.specs.List.{list_all, list_any}
 use Rattle.std.proofs.Common.{get_or, sym, ap, ◌∙◌, subst, eqb-true}
 use Rattle.x86_opcode.specs.declared.Opcode.{Opcode}
@@ -8,7 +8,7 @@ use Rattle.x86_opcode.specs.Number.Laws.{opcode_number_injective}
 use Rattle.x86_operand.specs.declared.register.RegisterBank.{RegisterBank}
 use Rattle.x86_operand.specs.Instruction.{operand_at}
 use Rattle.x86_operand.specs.Kind.{Kind, is_vector}
-use Rattle.x86_operand.specs.Meaning.{OperandMeaning, Meaning}
+use Rattle.x86_operand.specs.Meaning.{Meaning}
 use Rattle.x86_address.specs.Place.{Target, NoTarget, Number, At, target}
 use Rattle.vex_rows.specs.declared.entry.Entry.{Entry}
 use Rattle.vex_rows.specs.declared.form.Form.{Form}
@@ -25,12 +25,11 @@ use Rattle.vex_forms.specs.declared.slot.Slot.{Slot}
 use Rattle.vex_forms.specs.Slots.{slots, slots_at, index_bank, names_e}
 use Rattle.vex_forms.specs.Gives.{gives, slot_operand, target_operand}
 use Rattle.vex_forms.specs.Layout.{kind_for, row_for}
-use Rattle.vex_decode.specs.Spelling.{Syntax, meant}
 use Rattle.vex_encode.specs.Standard.{candidate, standard}
 use Rattle.vex_encode.specs.Encode.{standard_of, first, is_address}
 use Rattle.vex_encode.specs.declared.excluded.Glance.{Glance}
 use Rattle.vex_encode.specs.Excluded.{FitsE, IsGlance, RuleFits, RulesFit, is_optional, shown}
-use Rattle.vex_encode.proofs.Entries.{Made, made, is_at, addresses_given, grouped, any_group}
+use Rattle.vex_encode.proofs.Entries.{made, is_at, addresses_given, grouped, any_group}
 use Rattle.vex_encode.proofs.Search.{among_at, first_none}
 
 -- ---- what the first slots of a row are given

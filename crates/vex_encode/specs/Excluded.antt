@@ -6,7 +6,7 @@ use Rattle.x86_operand.specs.declared.register.RegisterBank.{RegisterBank}
 use Rattle.x86_operand.specs.Instruction.{operand_at}
 use Rattle.x86_operand.specs.Meaning.{OperandMeaning, register, signed, unsigned, memory, nothing}
 use Rattle.vex_rows.specs.declared.form_row.SlotRule.{SlotRule}
-use Rattle.vex_rows.specs.declared.form_row.SlotRule.TheVariants.{G, V, VInRegister, E, U8, I8, R4}
+use Rattle.vex_rows.specs.declared.form_row.SlotRule.TheVariants.{G, V, VInRegister, E, R4}
 use Rattle.vex_rows.specs.Row.{Row}
 use Rattle.vex_forms.specs.Slots.{bank_at}
 use Rattle.vex_encode.specs.declared.excluded.Shown.{Shown}

@@ -2,16 +2,15 @@
 
 ghost use Rattle.std.specs.Prelude.{ℕ, ◌≡◌, ◌+◌, ◌<◌, ◌≤◌, flat_map, if◌then◌else◌};
 ghost use Rattle.std.specs.List.{list_any};
-ghost use Rattle.x86_operand.specs.Meaning.{operand_meaning};
+ghost use Rattle.x86_operand.specs.Meaning.{Meaning, operand_meaning};
 ghost use Rattle.vex_rows.specs.declared.entry.Entry.{Entry};
 ghost use Rattle.vex_rows.specs.Row.{Among, choices, choices_of_l, choices_of_w};
 ghost use Rattle.vex_rows.specs.Groups.{groups};
 ghost use Rattle.vex_rows.specs.Table.{table};
 ghost use Rattle.vex_forms.specs.Layout.{IsLayout, row_for};
 ghost use Rattle.vex_decode.specs.Spelling.{bytes_of};
-ghost use Rattle.vex_encode.specs.Assembly.{row_chosen};
+ghost use Rattle.vex_encode.specs.Assembly.{IsAsked, IsPlaced, row_chosen};
 ghost use Rattle.vex_encode.specs.Canon.{canon};
-ghost use Rattle.vex_encode.specs.Conditions.{CanGive};
 ghost use Rattle.vex_encode.specs.Encode.{best, first, is_address, shorter_of, standard_of};
 ghost use Rattle.vex_encode.specs.Excluded.{IsGlance};
 ghost use Rattle.vex_encode.specs.Kind.{kind_seen};
@@ -19,8 +18,9 @@ ghost use Rattle.vex_encode.specs.Standard.{candidate};
 
 use crate::assembly::operand_fields;
 use crate::excluded::{Glance, is_excluded};
-use crate::fits::can_give;
+use crate::fits::given;
 use crate::kind::Kind;
+use crate::operand_walk::Asked;
 use crate::place::place_of;
 use crate::row_choice::RowChoice;
 use crate::spell::spell;
@@ -52,19 +52,15 @@ fn has_address(instruction: &Instruction) -> bool
     false
 }
 
-/// The spelling of an instruction by a row that can give it.
-fn spelling_by(
-    choice: &RowChoice,
-    kind: Kind,
-    layout: &RowLayout,
-    instruction: &Instruction,
-) -> Spelling
+/// The spelling of an instruction by a row that can give it, where its operands ask for this.
+fn spelling_by(choice: &RowChoice, kind: Kind, layout: &RowLayout, asked: &Asked) -> Spelling
     requires kind { (row_chosen choice.now).kind ≡ kind_seen kind }
     requires layout { IsLayout (row_chosen choice.now) layout.now }
-    requires gives { CanGive (row_chosen choice.now) instruction.now.meaning }
-    ensures { result ≡ bytes_of (row_chosen choice.now) (candidate (row_chosen choice.now) instruction.now.meaning) }
+    requires e { IsPlaced (kind_seen kind) layout.now.index_bank (operand_meaning asked.now.e) }
+    ensures { (m : Meaning) → IsAsked layout.now.slots.items m.operands asked.now
+        → result ≡ bytes_of (row_chosen choice.now) (candidate (row_chosen choice.now) m) }
 {
-    let numbers = operand_fields(kind, layout, instruction);
+    let numbers = operand_fields(kind, layout, asked);
     let place = place_of(kind.is_vector(), numbers.e);
     let prefix = Prefix {
         map: choice.entry.map,
@@ -95,10 +91,9 @@ fn standard(choice: &RowChoice, instruction: &Instruction) -> Option<Spelling>
         choice.group,
     )?;
     let kind = Kind::of(&layout, choice.memory);
-    if can_give(kind, &layout, instruction) {
-        Some(spelling_by(choice, kind, &layout, instruction))
-    } else {
-        None
+    match given(kind, &layout, instruction) {
+        Some(asked) => Some(spelling_by(choice, kind, &layout, &asked)),
+        None => None,
     }
 }
 

@@ -1,5 +1,5 @@
 -- The entry's rules refuse W or L, or its slots the first operands.
-use Rattle.std.proofs.Common.{refl, sym, ap, ◌∙◌, subst, if◌then◌else◌}
+use Rattle.std.proofs.Common.{refl, sym, ◌∙◌, subst, if◌then◌else◌}
 use Rattle.vex_rows.specs.declared.form_row.FormRow.{FormRow}
 use Rattle.vex_rows.specs.Few.{items}
 use Rattle.vex_rows.specs.Row.{row_at}
