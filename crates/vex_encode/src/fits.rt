@@ -6,11 +6,11 @@ ghost use Rattle.vex_rows.specs.Row.{Row};
 ghost use Rattle.vex_forms.specs.Layout.{IsLayout};
 ghost use Rattle.vex_encode.specs.Assembly.{IsAddressOf, IsAsked, IsRegisterOf};
 ghost use Rattle.vex_encode.specs.Kind.{kind_seen};
-ghost use Rattle.vex_encode.specs.Conditions.{AddressFits, CanGive, OperandFits, PlacedFits, RegisterFits, SlotBaseFits, SlotIndexFits};
+ghost use Rattle.vex_encode.specs.Conditions.{AddressFits, CanGive, PlacedFits, RegisterFits, SlotBaseFits, SlotIndexFits};
 
 use crate::kind::Kind;
 use crate::operand_walk::{Asked, operands_asked};
-use vex_forms::{RowLayout, Slot};
+use vex_forms::RowLayout;
 use x86_operand::{Address, Index, Instruction, Operand, RegSpec, RegisterBank};
 
 /// Whether a register is one of the sixteen of a bank that a prefix can name.
@@ -78,7 +78,12 @@ fn is_address_of(vector: bool, bank: RegisterBank, operand: Operand) -> bool
 }
 
 /// Whether an operand can stand at a slot E of that bank.
-fn placed_fits(kind: Kind, index_bank: RegisterBank, bank: RegisterBank, operand: Operand) -> bool
+pub fn placed_fits(
+    kind: Kind,
+    index_bank: RegisterBank,
+    bank: RegisterBank,
+    operand: Operand,
+) -> bool
     ensures { IsTrue result ↔ PlacedFits (kind_seen kind) index_bank bank (operand_meaning operand) }
 {
     match kind {
@@ -86,20 +91,6 @@ fn placed_fits(kind: Kind, index_bank: RegisterBank, bank: RegisterBank, operand
         Kind::Register => is_register_of(bank, operand),
         Kind::Memory => is_address_of(false, index_bank, operand),
         Kind::Vector => is_address_of(true, index_bank, operand),
-    }
-}
-
-/// Whether an operand can stand at a slot.
-pub fn operand_fits(kind: Kind, index_bank: RegisterBank, slot: Slot, operand: Operand) -> bool
-    ensures { IsTrue result ↔ OperandFits (kind_seen kind) index_bank slot (operand_meaning operand) }
-{
-    match slot {
-        Slot::G(bank) => is_register_of(bank, operand),
-        Slot::V(bank) => is_register_of(bank, operand),
-        Slot::E(bank) => placed_fits(kind, index_bank, bank, operand),
-        Slot::U8 => matches!(operand, Operand::ImmediateU8 { .. }),
-        Slot::I8 => matches!(operand, Operand::ImmediateI8 { .. }),
-        Slot::R4(bank) => is_register_of(bank, operand),
     }
 }
 

@@ -1,14 +1,17 @@
 //! What the operands of an instruction ask for, slot by slot.
 
-ghost use Rattle.std.specs.Prelude.{◌≡◌, ◌↔◌, IsSome, IfSome, List, [], ◌∷◌};
+ghost use Rattle.std.specs.Prelude.{◌≡◌, ◌↔◌, ◌≤◌, IsSome, IfSome, IsTrue, List, [], ◌∷◌, true};
+ghost use Rattle.x86_operand.specs.Instruction.{operand_at};
+ghost use Rattle.x86_operand.specs.Kind.{Kind as KindSeen};
 ghost use Rattle.x86_operand.specs.Meaning.{OperandMeaning, operand_meaning};
 ghost use Rattle.vex_forms.specs.declared.slot.Slot.{Slot};
-ghost use Rattle.vex_encode.specs.Assembly.{IsAsked};
-ghost use Rattle.vex_encode.specs.Conditions.{OperandsFit};
+ghost use Rattle.vex_forms.specs.Slots.{names_imm};
+ghost use Rattle.vex_encode.specs.Assembly.{IsAsked, IsRegisterOf};
+ghost use Rattle.vex_encode.specs.Conditions.{OperandFits, OperandsFit};
 ghost use Rattle.vex_encode.specs.Kind.{kind_seen};
 ghost use Rattle.vex_encode.specs.Standard.{imm_of, number_of};
 
-use crate::fits::operand_fits;
+use crate::fits::placed_fits;
 use crate::kind::Kind;
 use vex_forms::Slot;
 use x86_operand::{Instruction, Operand, RegisterBank};
@@ -27,15 +30,45 @@ pub fn number_of(operand: Operand) -> u8
     }
 }
 
-/// The immediate byte of an operand: its value's low eight bits, 16 times a register's number, or 0 of all else.
-fn imm_of(operand: Operand) -> u8
-    ensures { result ≡ imm_of (operand_meaning operand) }
+/// The number of a register that can stand at a slot of that bank.
+fn number_at(bank: RegisterBank, operand: Operand) -> Option<u8>
+    ensures fits { IsSome result ↔ IsRegisterOf bank (operand_meaning operand) }
+    ensures number { IfSome result (λ num. num ≡ number_of (operand_meaning operand)) }
+    ensures within { IfSome result (λ num. num ≤ 15) }
 {
     match operand {
-        Operand::Register { reg } => reg.num() % 16 * 16,
-        Operand::ImmediateI8 { imm } => imm.to_le_bytes()[0],
-        Operand::ImmediateU8 { imm } => imm,
-        Operand::MemDeref { .. } | Operand::Memory { .. } | Operand::Nothing => 0,
+        Operand::Register { reg } => {
+            if reg.bank() == bank && reg.num() <= 15 {
+                Some(reg.num())
+            } else {
+                None
+            }
+        }
+        _ => None,
+    }
+}
+
+/// The immediate byte that an operand asks for at a slot: its value's low eight bits, or 16 times a register's number.
+fn imm_at(slot: Slot, operand: Operand) -> Option<u8>
+    requires { names_imm slot ≡ true }
+    ensures fits { (kind : KindSeen) (bank : RegisterBank)
+        → (IsSome result ↔ OperandFits kind bank slot (operand_meaning operand)) }
+    ensures byte { IfSome result (λ imm. imm ≡ imm_of (operand_meaning operand)) }
+{
+    match slot {
+        Slot::U8 => match operand {
+            Operand::ImmediateU8 { imm } => Some(imm),
+            _ => None,
+        },
+        Slot::I8 => match operand {
+            Operand::ImmediateI8 { imm } => Some(imm.to_le_bytes()[0]),
+            _ => None,
+        },
+        Slot::R4(bank) => match number_at(bank, operand) {
+            Some(num) => Some(16 * num),
+            None => None,
+        },
+        Slot::G(_) | Slot::V(_) | Slot::E(_) => unreachable!(),
     }
 }
 
@@ -65,17 +98,42 @@ impl Asked {
         }
     }
 
-    /// Adds what an operand asks for, which stands with its slot before the others.
-    fn put_before(&mut self, slot: Slot, operand: Operand)
-        ensures { (slots : List Slot) (operands : List OperandMeaning) → IsAsked slots operands self.old
-            → IsAsked (slot ∷ slots) (operand_meaning operand ∷ operands) self.new }
+    /// Adds what the operand at a place asks for, which stands with its slot before the others. Answers whether it can
+    /// stand there.
+    fn put_before(
+        &mut self,
+        kind: Kind,
+        index_bank: RegisterBank,
+        slot: Slot,
+        instruction: &Instruction,
+        i: u8,
+    ) -> bool
+        ensures fits { IsTrue result
+            ↔ OperandFits (kind_seen kind) index_bank slot (operand_at instruction.now.meaning.operands i) }
+        ensures asked { (slots : List Slot) (operands : List OperandMeaning) → IsTrue result → IsAsked slots operands self.old
+            → IsAsked (slot ∷ slots) (operand_at instruction.now.meaning.operands i ∷ operands) self.new }
     {
         match slot {
-            Slot::G(_) => self.g = number_of(operand),
-            Slot::V(_) => self.v = number_of(operand),
-            Slot::E(_) => self.e = operand,
-            Slot::U8 | Slot::I8 | Slot::R4(_) => self.imm = imm_of(operand),
+            Slot::G(bank) => match number_at(bank, instruction.operand(i)) {
+                Some(num) => self.g = num,
+                None => return false,
+            },
+            Slot::V(bank) => match number_at(bank, instruction.operand(i)) {
+                Some(num) => self.v = num,
+                None => return false,
+            },
+            Slot::E(bank) => {
+                if !placed_fits(kind, index_bank, bank, instruction.operand(i)) {
+                    return false;
+                }
+                self.e = instruction.operand(i);
+            }
+            Slot::U8 | Slot::I8 | Slot::R4(_) => match imm_at(slot, instruction.operand(i)) {
+                Some(imm) => self.imm = imm,
+                None => return false,
+            },
         }
+        true
     }
 }
 
@@ -97,10 +155,9 @@ pub fn operands_asked(
     let mut i = slots.len();
     while i > 0 {
         i -= 1;
-        if !operand_fits(kind, index_bank, slots[i], instruction.operand(i as u8)) {
+        if !asked.put_before(kind, index_bank, slots[i], instruction, i as u8) {
             return None;
         }
-        asked.put_before(slots[i], instruction.operand(i as u8));
     }
     Some(asked)
 }
