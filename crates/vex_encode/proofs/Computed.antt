@@ -1,7 +1,7 @@
 -- Canonical bytes, first failing steps and shortest places, computed at examples.
 use Rattle.std.specs.Prelude.{◌≡◌, refl, [], ◌∷◌, Some, None, false, pos}
 use Rattle.x86_opcode.specs.declared.Opcode.TheVariants.{Float}
-use Rattle.x86_opcode.specs.declared.FloatOpcode.TheVariants.{VMOVAPS, VADDPS}
+use Rattle.x86_opcode.specs.declared.FloatOpcode.TheVariants.{VMOVAPS, VADDPS, VBLENDVPS}
 use Rattle.x86_operand.specs.declared.error.DecodeError.TheVariants.{ExhaustedInput, InvalidOpcode, InvalidOperand, Outside}
 use Rattle.x86_operand.specs.declared.register.RegisterBank.TheVariants.{X}
 use Rattle.x86_operand.specs.Meaning.{register, Meaning}
@@ -50,6 +50,22 @@ rows_of_adds = refl
 canon_adds : canon adds ≡ Some (0xC5 ∷ 0xF0 ∷ 0x58 ∷ 0xC2 ∷ [])
 unfolding canon rows choices exists has_groups mark_of table steps form_row groups standard candidate shortest slots index_bank gathers size_of sizes v_rule gives opcode_of has_imm same_meaning same_operands same_operand same_register same_bank same_opcode opcode_number
 canon_adds = refl
+
+-- VMOVAPS x16, x0: no prefix in VEX form names x16
+abbrev moves_above : Meaning
+moves_above = record { evex = false; opcode = Float VMOVAPS; operands = register (record { bank = X; num = 16 }) ∷ register (record { bank = X; num = 0 }) ∷ []; size = None }
+
+canon_moves_above : canon moves_above ≡ None
+unfolding canon rows choices exists has_groups mark_of table steps form_row groups standard candidate shortest slots index_bank gathers size_of sizes v_rule gives opcode_of has_imm same_meaning same_operands same_operand same_register same_bank same_opcode opcode_number
+canon_moves_above = refl
+
+-- VBLENDVPS x0, x1, x2, x3: the fourth register is the high four bits of the immediate byte
+abbrev blends : Meaning
+blends = record { evex = false; opcode = Float VBLENDVPS; operands = register (record { bank = X; num = 0 }) ∷ register (record { bank = X; num = 1 }) ∷ register (record { bank = X; num = 2 }) ∷ register (record { bank = X; num = 3 }) ∷ []; size = None }
+
+canon_blends : canon blends ≡ Some (0xC4 ∷ 0xE3 ∷ 0x71 ∷ 0x4A ∷ 0xC2 ∷ 0x30 ∷ [])
+unfolding canon rows choices exists has_groups mark_of table steps form_row groups standard candidate shortest slots index_bank gathers size_of sizes v_rule gives opcode_of has_imm same_meaning same_operands same_operand same_register same_bank same_opcode opcode_number
+canon_blends = refl
 
 empty : fails [] ≡ Some (ExhaustedInput, 0)
 unfolding walk

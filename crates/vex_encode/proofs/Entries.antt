@@ -24,7 +24,6 @@ use Rattle.vex_rows.specs.Steps.{steps}
 use Rattle.vex_rows.specs.Groups.{groups}
 use Rattle.vex_rows.specs.Row.{Row, Among, IsRow, exists, has_groups, has_imm, kinds_of, group_choices, row_at, choices, choices_of_kind, choices_of_l, choices_of_w, is_memory}
 use Rattle.vex_rows.specs.Row.Lists.{both-parts, parts-both, from-flat_map, from-map}
-use Rattle.vex_rows.specs.Groups.Laws.{small_group}
 use Rattle.vex_forms.specs.declared.slot.Slot.{Slot}
 use Rattle.vex_forms.specs.declared.slot.Slot.TheVariants.{G, V, E, U8, I8, R4}
 use Rattle.vex_forms.specs.Slots.{slots, slots_at, slots_of, bank_at, names_e}
@@ -40,7 +39,7 @@ use Rattle.vex_encode.specs.Assembly.{kind_by}
 use Rattle.vex_encode.specs.Conditions.{CanGive}
 use Rattle.vex_encode.proofs.Conditions.{fits_given, standard_is_some}
 use Rattle.vex_encode.proofs.Standard.{kind_asked, bytes_length, imm_length}
-use Rattle.vex_encode.proofs.Search.{NoLonger, first-append, first_of-none, first_of_two, first_none, best-first_of_two, among_at}
+use Rattle.vex_encode.proofs.Search.{NoLonger, first-append, first_of-none, first_of_two, first_none, best-first_of_two}
 
 -- ---- the operand E of rows of one entry and one kind stands at the same slot
 
@@ -151,7 +150,7 @@ module _ (row other : Row) (m : Meaning) (e : row.entry ≡ other.entry) (k : ro
 -- ---- what a row gives has an address exactly where its operand E is in memory
 
 -- whether a target is an address
-abbrev is_at : Target → Bool
+abbrev pub is_at : Target → Bool
 is_at NoTarget = false
 is_at (Number n) = false
 is_at (At a) = true
@@ -174,7 +173,7 @@ module _ (index_bank : RegisterBank) (r v reg : ℕ) (e : Target) (imm : ℕ) wh
   address_given I8 = refl
   address_given (R4 bank) = refl
 
-  addresses_given : (slots : List Slot) → list_any is_address (map (slot_operand index_bank r v reg e imm) slots) ≡ (list_any names_e slots && is_at e)
+  pub addresses_given : (slots : List Slot) → list_any is_address (map (slot_operand index_bank r v reg e imm) slots) ≡ (list_any names_e slots && is_at e)
   addresses_given [] = refl
   addresses_given (slot ∷ slots) = ap₂ ◌||◌ (address_given slot) (addresses_given slots) ∙ either (names_e slot) (list_any names_e slots) (is_at e) where
     either : (a b c : Bool) → ((a && c) || (b && c)) ≡ ((a || b) && c)
@@ -328,11 +327,11 @@ first_of_l m entry w l memory is = by (steps entry.form).modrm refl memory is wh
   by false h memory is = first-append m (choices_of_kind entry w l WithoutModRM) [] ∙ first_of-none _
 
 -- a form has groups exactly where there are some
-abbrev any_group : List (ℕ × Opcode) → Bool
+abbrev pub any_group : List (ℕ × Opcode) → Bool
 any_group [] = false
 any_group (group ∷ gs) = true
 
-grouped : (form : Form) (l : ℕ) → has_groups form ≡ any_group (groups form l)
+pub grouped : (form : Form) (l : ℕ) → has_groups form ≡ any_group (groups form l)
 unfolding has_groups steps groups form_row
 grouped Nothing l = refl
 grouped _ l = refl
@@ -376,11 +375,6 @@ first_end m f [] zero h = refl
 first_end m f [] (suc i) h = refl
 first_end m f (y ∷ xs) zero h = absurd (omega arith)
 first_end m f (y ∷ xs) (suc i) h = first_end m f xs i (omega arith)
-
--- a group is a value of three bits
-pub group_small : (form : Form) (l : ℕ) (gs : List (ℕ × Opcode)) (i : ℕ) (g : ℕ × Opcode) → gs ≡ groups form l → i < length gs → (get_or gs i g).0 < 8
-group_small form l gs i g e h =
-    small_group form l (get_or gs i g) (subst (λ all. Among (get_or gs i g) all) e (among_at gs i g h))
 
 -- ---- a choice that isn't a row
 

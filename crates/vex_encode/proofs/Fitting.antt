@@ -9,7 +9,8 @@ use Rattle.vex_rows.specs.Row.{is_memory}
 use Rattle.vex_forms.specs.declared.slot.Slot.{Slot}
 use Rattle.vex_forms.specs.declared.slot.Slot.TheVariants.{G, V, E, U8, I8, R4}
 use Rattle.vex_forms.specs.Slots.{names_e}
-use Rattle.vex_encode.specs.Assembly.{IsPlaced}
+use Rattle.vex_encode.specs.declared.operand_walk.Asked.{Asked}
+use Rattle.vex_encode.specs.Assembly.{IsAsked, IsPlaced}
 use Rattle.vex_encode.specs.Conditions.{PlacedFits, OperandFits, OperandsFit}
 use Rattle.vex_encode.specs.Standard.{operand_of_kind}
 
@@ -39,6 +40,14 @@ module _ (kind : Kind) (index_bank : RegisterBank) where
   fit_parts (x ∷ slots) (o ∷ operands) zero s h e fit = fit
   fit_parts (x ∷ slots) (o ∷ operands) (suc i) s h e fit = let parts = fit_parts slots operands i s (omega arith) (omega arith) fit in let later = parts.1 in (parts.0, rw add-one (rw add-one at later))
 
+  -- where all fit, those from a place on do
+  pub fit_drop : (slots : List Slot) (operands : List OperandMeaning) (i : ℕ) → OperandsFit kind index_bank slots operands → OperandsFit kind index_bank (drop i slots) (drop i operands)
+  fit_drop slots operands zero fit = fit
+  fit_drop [] [] (suc i) fit = tt
+  fit_drop [] (o ∷ operands) (suc i) fit = absurd fit
+  fit_drop (x ∷ slots) [] (suc i) fit = absurd fit
+  fit_drop (x ∷ slots) (o ∷ operands) (suc i) fit = fit_drop slots operands i fit.1
+
   -- past the last there is none that doesn't
   pub fit_end : (slots : List Slot) (operands : List OperandMeaning) (i : ℕ) → i ≡ length slots → length operands ≡ length slots → OperandsFit kind index_bank (drop i slots) (drop i operands)
   fit_end [] [] zero h e = tt
@@ -47,6 +56,23 @@ module _ (kind : Kind) (index_bank : RegisterBank) where
   fit_end (x ∷ slots) [] i h e = absurd (omega arith)
   fit_end (x ∷ slots) (o ∷ operands) zero h e = absurd (omega arith)
   fit_end (x ∷ slots) (o ∷ operands) (suc i) h e = fit_end slots operands i (omega arith) (omega arith)
+
+-- what operands ask for from a place on, by the one there and those after it
+pub asked_here : (slots : List Slot) (operands : List OperandMeaning) (i : ℕ) (s : Slot) (asked : Asked) → i < length slots → length operands ≡ length slots →
+    IsAsked (get_or slots i s ∷ drop (i + 1) slots) (slice_index_or operands i nothing ∷ drop (i + 1) operands) asked → IsAsked (drop i slots) (drop i operands) asked
+asked_here [] operands i s asked h e is = absurd (omega arith)
+asked_here (x ∷ slots) [] i s asked h e is = absurd (omega arith)
+asked_here (x ∷ slots) (o ∷ operands) zero s asked h e is = is
+asked_here (x ∷ slots) (o ∷ operands) (suc i) s asked h e is = asked_here slots operands i s asked (omega arith) (omega arith) (rw add-one (rw add-one at is))
+
+-- past the last they ask for nothing
+pub asked_end : (slots : List Slot) (operands : List OperandMeaning) (i : ℕ) (asked : Asked) → i ≡ length slots → length operands ≡ length slots → IsAsked [] [] asked → IsAsked (drop i slots) (drop i operands) asked
+asked_end [] [] zero asked h e is = is
+asked_end [] [] (suc i) asked h e is = is
+asked_end [] (o ∷ operands) i asked h e is = absurd (omega arith)
+asked_end (x ∷ slots) [] i asked h e is = absurd (omega arith)
+asked_end (x ∷ slots) (o ∷ operands) zero asked h e is = absurd (omega arith)
+asked_end (x ∷ slots) (o ∷ operands) (suc i) asked h e is = asked_end slots operands i asked (omega arith) (omega arith) is
 
 address_placed : (kind : Kind) (index_bank bank : RegisterBank) (operand : OperandMeaning) → PlacedFits kind index_bank bank operand → IsPlaced kind index_bank operand
 address_placed WithoutModRM index_bank bank operand fit = tt

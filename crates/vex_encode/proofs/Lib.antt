@@ -4,9 +4,9 @@ pub mod Standard
 pub mod Canon
 pub mod CanonLaws
 pub mod Conditions
-pub mod FirstSlot
 pub mod Search
 pub mod Entries
+pub mod PassedOver
 pub mod Addresses
 pub mod Asked
 pub mod Fitting

@@ -2,7 +2,7 @@
 use Rattle.std.specs.Prelude.{◌≡◌, ℕ, ◌+◌, ◌*◌, ◌/◌, ◌%◌, ◌<◌, ◌==◌, Bool, true, false, List, [], ◌∷◌, unwrap_or, if◌then◌else◌}
 use Rattle.x86_operand.specs.declared.register.RegisterBank.{RegisterBank}
 use Rattle.x86_operand.specs.Kind.{Kind, WithoutModRM, InRegister, InMemory, VectorIndexed, memory_kind}
-use Rattle.x86_operand.specs.Meaning.{OperandMeaning, register, memory, Meaning}
+use Rattle.x86_operand.specs.Meaning.{OperandMeaning, register, memory, Meaning, operand_meaning}
 use Rattle.x86_address.specs.Place.{Target}
 use Rattle.x86_operand.specs.declared.register.RegisterBank.TheVariants.{Q}
 use Rattle.x86_operand.specs.declared.address.Address.{Address}
@@ -18,17 +18,9 @@ use Rattle.vex_forms.specs.Layout.{row_for}
 use Rattle.vex_forms.specs.Operands.{target_seen}
 use Rattle.vex_forms.specs.Slots.{names_g, names_v, names_e, names_imm}
 use Rattle.vex_encode.specs.declared.row_choice.RowChoice.{RowChoice}
-use Rattle.vex_encode.specs.declared.slot_kind.SlotKind.{SlotKind}
-use Rattle.vex_encode.specs.declared.slot_kind.SlotKind.TheVariants as of_kind
+use Rattle.vex_encode.specs.declared.operand_walk.Asked.{Asked}
 use Rattle.vex_encode.specs.Standard.{operand_of_kind, number_of, imm_of, target_of}
 use Rattle.vex_encode.specs.Conditions.{RegisterFits, AddressFits}
-
--- whether a slot is of the kind
-abbrev pub names : SlotKind → Slot → Bool
-names of_kind.G slot = names_g slot
-names of_kind.V slot = names_v slot
-names of_kind.E slot = names_e slot
-names of_kind.Immediate slot = names_imm slot
 
 -- the row that is chosen
 abbrev pub row_chosen : RowChoice → Row
@@ -38,6 +30,13 @@ row_chosen choice = row_for choice.entry choice.w choice.l choice.memory choice.
 -- and whether that operand is in memory
 abbrev pub kind_by : Bool → Bool → Bool → Kind
 kind_by vector modrm in_memory = if modrm then (if in_memory then memory_kind vector else InRegister) else WithoutModRM
+
+-- what operands ask for, each by the first slot of its kind
+pub record IsAsked (slots : List Slot) (operands : List OperandMeaning) (asked : Asked) : Type 0 where
+  pub g : asked.g ≡ number_of (operand_of_kind names_g slots operands)
+  pub v : asked.v ≡ number_of (operand_of_kind names_v slots operands)
+  pub e : operand_meaning asked.e ≡ operand_of_kind names_e slots operands
+  pub imm : asked.imm ≡ imm_of (operand_of_kind names_imm slots operands)
 
 -- the number that the operand at the slot of the field reg has
 abbrev pub g_of : RowLayout → Meaning → ℕ

@@ -3,20 +3,21 @@
 ghost use Rattle.std.specs.Prelude.{◌≡◌, ◌≤◌, ◌<◌, Bool, length};
 ghost use Rattle.std.specs.Option.{ForSome};
 ghost use Rattle.x86_operand.specs.Kind.{is_vector};
-ghost use Rattle.x86_operand.specs.Meaning.{memory, operand_meaning};
+ghost use Rattle.x86_operand.specs.Meaning.{Meaning, memory, operand_meaning};
 ghost use Rattle.x86_operand.specs.declared.register.RegisterBank.{RegisterBank};
 ghost use Rattle.x86_operand.specs.declared.register.RegisterBank.TheVariants.{Q};
 ghost use Rattle.x86_address.specs.Shortest.{in_banks, index_register, plain, plain_index};
 ghost use Rattle.x86_address.specs.Spells.{BaseFits, IndexFits};
 ghost use Rattle.vex_forms.specs.Operands.{BanksFit, NumberFits};
-ghost use Rattle.vex_encode.specs.Assembly.{AsksFor, CanBePlaced, HasNumbers, GeneralAddress, IsAddress, IsAddressOf, IsPlaced, asked_of, operand_at_e};
+ghost use Rattle.vex_encode.specs.Assembly.{AsksFor, CanBePlaced, HasNumbers, GeneralAddress, IsAddress, IsAddressOf, IsAsked, IsPlaced};
 ghost use Rattle.vex_encode.specs.Kind.{kind_seen};
+ghost use Rattle.vex_encode.specs.Standard.{target_of};
 ghost use Rattle.vex_encode.specs.Conditions.{AddressFits, SlotIndexFits};
 
 use crate::kind::Kind;
-use crate::slot_kind::{SlotKind, imm_of, number_of, operand_of};
+use crate::operand_walk::{Asked, number_of};
 use vex_forms::{OperandE, OperandFields, RowLayout};
-use x86_operand::{Address, Index, Instruction, Operand, RegSpec, RegisterBank};
+use x86_operand::{Address, Index, Operand, RegSpec, RegisterBank};
 
 /// The address of an operand in memory.
 fn address_of(operand: Operand) -> Address
@@ -60,50 +61,44 @@ fn general_address(address: Address) -> Address
     }
 }
 
-/// The address at the slot E, with its index in bank `Q`. `vector` says whether that is a vector register.
-fn address_at_e(vector: bool, layout: &RowLayout, instruction: &Instruction) -> Address
-    requires { IsAddressOf vector layout.now.index_bank (operand_at_e layout.now instruction.now.meaning) }
-    ensures address { GeneralAddress (operand_at_e layout.now instruction.now.meaning) result }
+/// The address of an operand, with its index in bank `Q`. `vector` says whether that is a vector register.
+fn address_at_e(vector: bool, operand: Operand) -> Address
+    requires { (bank : RegisterBank) × IsAddressOf vector bank (operand_meaning operand) }
+    ensures address { GeneralAddress (operand_meaning operand) result }
     ensures bytes { BaseFits result.base result.index × IndexFits vector result.index }
 {
-    let operand = operand_of(SlotKind::E, layout.slots.as_slice(), instruction);
     general_address(address_of(operand))
 }
 
 /// What the operand at the slot E asks for.
-fn operand_e(kind: Kind, layout: &RowLayout, instruction: &Instruction) -> OperandE
-    requires { IsPlaced (kind_seen kind) layout.now.index_bank (operand_at_e layout.now instruction.now.meaning) }
-    ensures asks { AsksFor result (asked_of (kind_seen kind) layout.now instruction.now.meaning) }
+fn operand_e(kind: Kind, operand: Operand) -> OperandE
+    requires { (bank : RegisterBank) × IsPlaced (kind_seen kind) bank (operand_meaning operand) }
+    ensures asks { AsksFor result (target_of (kind_seen kind) (operand_meaning operand)) }
     ensures placed { CanBePlaced (is_vector (kind_seen kind)) result }
     ensures number { NumberFits result }
     ensures banks { BanksFit result }
 {
     match kind {
         Kind::WithoutModRM => OperandE::Absent,
-        Kind::Register => {
-            let operand = operand_of(SlotKind::E, layout.slots.as_slice(), instruction);
-            OperandE::Register(number_of(operand) % 16)
-        }
-        Kind::Memory => OperandE::Memory(address_at_e(false, layout, instruction)),
-        Kind::Vector => OperandE::Memory(address_at_e(true, layout, instruction)),
+        Kind::Register => OperandE::Register(number_of(operand) % 16),
+        Kind::Memory => OperandE::Memory(address_at_e(false, operand)),
+        Kind::Vector => OperandE::Memory(address_at_e(true, operand)),
     }
 }
 
-/// The numbers that the operands ask for in a row with this kind of operand E.
-pub fn operand_fields(kind: Kind, layout: &RowLayout, instruction: &Instruction) -> OperandFields
+/// The numbers that operands ask for in a row with this kind of operand E, where they ask for this slot by slot.
+pub fn operand_fields(kind: Kind, layout: &RowLayout, asked: &Asked) -> OperandFields
     requires group { ForSome layout.now.group (λ group. group < 8) }
-    requires e { IsPlaced (kind_seen kind) layout.now.index_bank (operand_at_e layout.now instruction.now.meaning) }
-    ensures numbers { HasNumbers (kind_seen kind) layout.now instruction.now.meaning result }
+    requires e { IsPlaced (kind_seen kind) layout.now.index_bank (operand_meaning asked.now.e) }
+    ensures numbers { (m : Meaning) → IsAsked layout.now.slots.items m.operands asked.now
+        → HasNumbers (kind_seen kind) layout.now m result }
     ensures placed { CanBePlaced (is_vector (kind_seen kind)) result.e }
 {
-    let slots = layout.slots.as_slice();
-    let g = number_of(operand_of(SlotKind::G, slots, instruction));
-    let v = number_of(operand_of(SlotKind::V, slots, instruction));
     OperandFields {
-        r: g / 8 % 2 == 1,
-        vvvv: v % 16,
-        reg: layout.group.unwrap_or(g % 8),
-        e: operand_e(kind, layout, instruction),
-        imm: imm_of(operand_of(SlotKind::Immediate, slots, instruction)),
+        r: asked.g / 8 % 2 == 1,
+        vvvv: asked.v % 16,
+        reg: layout.group.unwrap_or(asked.g % 8),
+        e: operand_e(kind, asked.e),
+        imm: asked.imm,
     }
 }

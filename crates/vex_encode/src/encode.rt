@@ -2,23 +2,25 @@
 
 ghost use Rattle.std.specs.Prelude.{ℕ, ◌≡◌, ◌+◌, ◌<◌, ◌≤◌, flat_map, if◌then◌else◌};
 ghost use Rattle.std.specs.List.{list_any};
-ghost use Rattle.x86_operand.specs.Meaning.{operand_meaning};
+ghost use Rattle.x86_operand.specs.Meaning.{Meaning, operand_meaning};
 ghost use Rattle.vex_rows.specs.declared.entry.Entry.{Entry};
 ghost use Rattle.vex_rows.specs.Row.{Among, choices, choices_of_l, choices_of_w};
 ghost use Rattle.vex_rows.specs.Groups.{groups};
 ghost use Rattle.vex_rows.specs.Table.{table};
-ghost use Rattle.vex_forms.specs.Layout.{IsLayout};
+ghost use Rattle.vex_forms.specs.Layout.{IsLayout, row_for};
 ghost use Rattle.vex_decode.specs.Spelling.{bytes_of};
-ghost use Rattle.vex_encode.specs.Assembly.{row_chosen};
+ghost use Rattle.vex_encode.specs.Assembly.{IsAsked, IsPlaced, row_chosen};
 ghost use Rattle.vex_encode.specs.Canon.{canon};
-ghost use Rattle.vex_encode.specs.Conditions.{CanGive};
 ghost use Rattle.vex_encode.specs.Encode.{best, first, is_address, shorter_of, standard_of};
+ghost use Rattle.vex_encode.specs.Excluded.{IsGlance};
 ghost use Rattle.vex_encode.specs.Kind.{kind_seen};
 ghost use Rattle.vex_encode.specs.Standard.{candidate};
 
 use crate::assembly::operand_fields;
-use crate::fits::can_give;
+use crate::excluded::{Glance, is_excluded};
+use crate::fits::given;
 use crate::kind::Kind;
+use crate::operand_walk::Asked;
 use crate::place::place_of;
 use crate::row_choice::RowChoice;
 use crate::spell::spell;
@@ -50,19 +52,15 @@ fn has_address(instruction: &Instruction) -> bool
     false
 }
 
-/// The spelling of an instruction by a row that can give it.
-fn spelling_by(
-    choice: &RowChoice,
-    kind: Kind,
-    layout: &RowLayout,
-    instruction: &Instruction,
-) -> Spelling
+/// The spelling of an instruction by a row that can give it, where its operands ask for this.
+fn spelling_by(choice: &RowChoice, kind: Kind, layout: &RowLayout, asked: &Asked) -> Spelling
     requires kind { (row_chosen choice.now).kind ≡ kind_seen kind }
     requires layout { IsLayout (row_chosen choice.now) layout.now }
-    requires gives { CanGive (row_chosen choice.now) instruction.now.meaning }
-    ensures { result ≡ bytes_of (row_chosen choice.now) (candidate (row_chosen choice.now) instruction.now.meaning) }
+    requires e { IsPlaced (kind_seen kind) layout.now.index_bank (operand_meaning asked.now.e) }
+    ensures { (m : Meaning) → IsAsked layout.now.slots.items m.operands asked.now
+        → result ≡ bytes_of (row_chosen choice.now) (candidate (row_chosen choice.now) m) }
 {
-    let numbers = operand_fields(kind, layout, instruction);
+    let numbers = operand_fields(kind, layout, asked);
     let place = place_of(kind.is_vector(), numbers.e);
     let prefix = Prefix {
         map: choice.entry.map,
@@ -93,10 +91,9 @@ fn standard(choice: &RowChoice, instruction: &Instruction) -> Option<Spelling>
         choice.group,
     )?;
     let kind = Kind::of(&layout, choice.memory);
-    if can_give(kind, &layout, instruction) {
-        Some(spelling_by(choice, kind, &layout, instruction))
-    } else {
-        None
+    match given(kind, &layout, instruction) {
+        Some(asked) => Some(spelling_by(choice, kind, &layout, &asked)),
+        None => None,
     }
 }
 
@@ -108,40 +105,63 @@ fn groups_of(form: Form) -> ArrayVec<(u8, Opcode), 4>
     row_of_form(form).groups.items()
 }
 
-/// The standard spelling by the first row of an entry at that W and L that can give an instruction. `memory` says
-/// whether it has an address; a row of another kind can't give it.
+/// The standard spelling by the row of a group of an entry, at that W and L, where the group is of the instruction's
+/// opcode, and the row exists and can give it.
+fn standard_of_group(
+    entry: &Entry,
+    w: bool,
+    l: bool,
+    glance: &Glance,
+    group: (u8, Opcode),
+    instruction: &Instruction,
+) -> Option<Spelling>
+    requires listed { Among entry.now table }
+    requires group { Among group (groups entry.now.form (if l then 1 else 0)) }
+    requires glance { IsGlance instruction.now.meaning.operands glance.now }
+    ensures { result ≡ standard_of (row_for entry.now w l glance.now.memory group.0) instruction.now.meaning }
+{
+    if !instruction.opcode().is(group.1) {
+        return None;
+    }
+    let choice = RowChoice {
+        entry: *entry,
+        w,
+        l,
+        memory: glance.memory,
+        group: group.0,
+    };
+    standard(&choice, instruction)
+}
+
+/// The standard spelling by the first row of an entry at that W and L that can give an instruction.
 fn standard_by_group(
     entry: &Entry,
     w: bool,
     l: bool,
-    memory: bool,
+    glance: &Glance,
     reg_groups: &[(u8, Opcode)],
     instruction: &Instruction,
 ) -> Option<Spelling>
     requires listed { Among entry.now table }
     requires groups { (l : ℕ) → reg_groups.now ≡ groups entry.now.form l }
-    requires memory { memory ≡ list_any is_address instruction.now.meaning.operands }
+    requires glance { IsGlance instruction.now.meaning.operands glance.now }
     ensures { result ≡ first instruction.now.meaning (choices_of_l entry.now w (if l then 1 else 0)) }
 {
+    if is_excluded(entry, w, l, glance) {
+        return None;
+    }
     if reg_groups.is_empty() {
         let choice = RowChoice {
             entry: *entry,
             w,
             l,
-            memory,
+            memory: glance.memory,
             group: 0,
         };
         return standard(&choice, instruction);
     }
     for group in reg_groups {
-        let choice = RowChoice {
-            entry: *entry,
-            w,
-            l,
-            memory,
-            group: group.0,
-        };
-        let found = standard(&choice, instruction);
+        let found = standard_of_group(entry, w, l, glance, *group, instruction);
         if found.is_some() {
             return found;
         }
@@ -153,50 +173,50 @@ fn standard_by_group(
 fn standard_by_l(
     entry: &Entry,
     w: bool,
-    memory: bool,
+    glance: &Glance,
     reg_groups: &[(u8, Opcode)],
     instruction: &Instruction,
 ) -> Option<Spelling>
     requires listed { Among entry.now table }
     requires groups { (l : ℕ) → reg_groups.now ≡ groups entry.now.form l }
-    requires memory { memory ≡ list_any is_address instruction.now.meaning.operands }
+    requires glance { IsGlance instruction.now.meaning.operands glance.now }
     ensures { result ≡ first instruction.now.meaning (choices_of_w entry.now w) }
 {
-    let found = standard_by_group(entry, w, false, memory, reg_groups, instruction);
+    let found = standard_by_group(entry, w, false, glance, reg_groups, instruction);
     if found.is_some() {
         return found;
     }
-    standard_by_group(entry, w, true, memory, reg_groups, instruction)
+    standard_by_group(entry, w, true, glance, reg_groups, instruction)
 }
 
 /// The shortest standard spelling of an instruction by the rows of an entry with these groups, where there is one. That
 /// is the one of the first row that can give it: the rows differ in length by W alone, and those with W 0 come first.
 fn standard_by_w(
     entry: &Entry,
-    memory: bool,
+    glance: &Glance,
     reg_groups: &[(u8, Opcode)],
     instruction: &Instruction,
 ) -> Option<Spelling>
     requires listed { Among entry.now table }
     requires groups { (l : ℕ) → reg_groups.now ≡ groups entry.now.form l }
-    requires memory { memory ≡ list_any is_address instruction.now.meaning.operands }
+    requires glance { IsGlance instruction.now.meaning.operands glance.now }
     ensures { result ≡ best instruction.now.meaning (choices entry.now) }
 {
-    let found = standard_by_l(entry, false, memory, reg_groups, instruction);
+    let found = standard_by_l(entry, false, glance, reg_groups, instruction);
     if found.is_some() {
         return found;
     }
-    standard_by_l(entry, true, memory, reg_groups, instruction)
+    standard_by_l(entry, true, glance, reg_groups, instruction)
 }
 
 /// The shortest standard spelling of an instruction by the rows of an entry, where there is one.
-fn standard_by_entry(entry: &Entry, memory: bool, instruction: &Instruction) -> Option<Spelling>
+fn standard_by_entry(entry: &Entry, glance: &Glance, instruction: &Instruction) -> Option<Spelling>
     requires listed { Among entry.now table }
-    requires memory { memory ≡ list_any is_address instruction.now.meaning.operands }
+    requires glance { IsGlance instruction.now.meaning.operands glance.now }
     ensures { result ≡ best instruction.now.meaning (choices entry.now) }
 {
     let groups = groups_of(entry.form);
-    standard_by_w(entry, memory, groups.as_slice(), instruction)
+    standard_by_w(entry, glance, groups.as_slice(), instruction)
 }
 
 /// The shorter of two spellings that may be missing, the first where both are equally long.
@@ -222,10 +242,10 @@ fn standard_by_entries(entries: &[Entry], instruction: &Instruction) -> Option<S
     requires { (entry : Entry) → Among entry entries.now → Among entry table }
     ensures { result ≡ best instruction.now.meaning (flat_map choices entries.now) }
 {
-    let memory = has_address(instruction);
+    let glance = Glance::of(instruction, has_address(instruction));
     let mut shortest = None;
     for entry in entries {
-        let found = standard_by_entry(entry, memory, instruction);
+        let found = standard_by_entry(entry, &glance, instruction);
         shortest = shorter(shortest, found);
     }
     shortest

@@ -1,15 +1,16 @@
 //! Whether a row can give an instruction: what it asks of the mark, the opcode, the size and each operand.
 
-ghost use Rattle.std.specs.Prelude.{◌≡◌, ◌↔◌, ◌≤◌, IsTrue, length};
+ghost use Rattle.std.specs.Prelude.{◌≡◌, ◌↔◌, ◌≤◌, IsSome, IfSome, IsTrue};
 ghost use Rattle.x86_operand.specs.Meaning.{operand_meaning};
 ghost use Rattle.vex_rows.specs.Row.{Row};
 ghost use Rattle.vex_forms.specs.Layout.{IsLayout};
-ghost use Rattle.vex_encode.specs.Assembly.{IsAddressOf, IsRegisterOf};
+ghost use Rattle.vex_encode.specs.Assembly.{IsAddressOf, IsAsked, IsRegisterOf};
 ghost use Rattle.vex_encode.specs.Kind.{kind_seen};
-ghost use Rattle.vex_encode.specs.Conditions.{AddressFits, CanGive, OperandFits, OperandsFit, PlacedFits, RegisterFits, SlotBaseFits, SlotIndexFits};
+ghost use Rattle.vex_encode.specs.Conditions.{AddressFits, CanGive, PlacedFits, RegisterFits, SlotBaseFits, SlotIndexFits};
 
 use crate::kind::Kind;
-use vex_forms::{RowLayout, Slot};
+use crate::operand_walk::{Asked, operands_asked};
+use vex_forms::RowLayout;
 use x86_operand::{Address, Index, Instruction, Operand, RegSpec, RegisterBank};
 
 /// Whether a register is one of the sixteen of a bank that a prefix can name.
@@ -77,7 +78,12 @@ fn is_address_of(vector: bool, bank: RegisterBank, operand: Operand) -> bool
 }
 
 /// Whether an operand can stand at a slot E of that bank.
-fn placed_fits(kind: Kind, index_bank: RegisterBank, bank: RegisterBank, operand: Operand) -> bool
+pub fn placed_fits(
+    kind: Kind,
+    index_bank: RegisterBank,
+    bank: RegisterBank,
+    operand: Operand,
+) -> bool
     ensures { IsTrue result ↔ PlacedFits (kind_seen kind) index_bank bank (operand_meaning operand) }
 {
     match kind {
@@ -88,53 +94,23 @@ fn placed_fits(kind: Kind, index_bank: RegisterBank, bank: RegisterBank, operand
     }
 }
 
-/// Whether an operand can stand at a slot.
-fn operand_fits(kind: Kind, index_bank: RegisterBank, slot: Slot, operand: Operand) -> bool
-    ensures { IsTrue result ↔ OperandFits (kind_seen kind) index_bank slot (operand_meaning operand) }
-{
-    match slot {
-        Slot::G(bank) => is_register_of(bank, operand),
-        Slot::V(bank) => is_register_of(bank, operand),
-        Slot::E(bank) => placed_fits(kind, index_bank, bank, operand),
-        Slot::U8 => matches!(operand, Operand::ImmediateU8 { .. }),
-        Slot::I8 => matches!(operand, Operand::ImmediateI8 { .. }),
-        Slot::R4(bank) => is_register_of(bank, operand),
-    }
-}
-
-/// Whether there are as many operands as slots, and each can stand at its slot.
-fn operands_fit(
-    kind: Kind,
-    index_bank: RegisterBank,
-    slots: &[Slot],
-    instruction: &Instruction,
-) -> bool
-    ensures { IsTrue result ↔ OperandsFit (kind_seen kind) index_bank slots.now instruction.now.meaning.operands }
-{
-    if usize::from(instruction.operand_count()) != slots.len() {
-        return false;
-    }
-    for (i, slot) in slots.iter().enumerate() {
-        if !operand_fits(kind, index_bank, *slot, instruction.operand(i as u8)) {
-            return false;
-        }
-    }
-    true
-}
-
-/// Whether the row of a layout, with this kind of operand E, can give an instruction.
+/// What the operands of an instruction ask for, where the row of a layout, with this kind of operand E, can give it.
 #[tactic(auto, unfolding(vex_rows::specs::Row::mark_of))]
-pub fn can_give(kind: Kind, layout: &RowLayout, instruction: &Instruction) -> bool
-    ensures { (row : Row) → IsLayout row layout.now → row.kind ≡ kind_seen kind
-        → (IsTrue result ↔ CanGive row instruction.now.meaning) }
+pub fn given(kind: Kind, layout: &RowLayout, instruction: &Instruction) -> Option<Asked>
+    ensures gives { (row : Row) → IsLayout row layout.now → row.kind ≡ kind_seen kind
+        → (IsSome result ↔ CanGive row instruction.now.meaning) }
+    ensures asked { IfSome result (IsAsked layout.now.slots.items instruction.now.meaning.operands) }
 {
-    !instruction.is_evex()
-        && instruction.opcode().is(layout.opcode)
-        && instruction.mem_size() == layout.mem_size
-        && operands_fit(
-            kind,
-            layout.index_bank,
-            layout.slots.as_slice(),
-            instruction,
-        )
+    if instruction.is_evex()
+        || !instruction.opcode().is(layout.opcode)
+        || instruction.mem_size() != layout.mem_size
+    {
+        return None;
+    }
+    operands_asked(
+        kind,
+        layout.index_bank,
+        layout.slots.as_slice(),
+        instruction,
+    )
 }

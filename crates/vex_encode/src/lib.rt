@@ -3,14 +3,15 @@
 
 mod assembly;
 mod encode;
+mod excluded;
 mod fits;
 mod kind;
 pub mod laws;
+mod operand_walk;
 mod place;
 mod recoder;
 mod row_choice;
 mod shortest;
-mod slot_kind;
 mod spell;
 mod spelling;
 mod sweeper;
