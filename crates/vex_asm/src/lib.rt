@@ -15,7 +15,7 @@ mod reader;
 mod tests;
 mod words;
 
-pub use appender::{MAX_MEANING, MAX_TEXT, append};
+pub use appender::{MAX_MEANING, MAX_TEXT, append, append_name, append_number, append_register};
 pub use assembler::{assemble, assemble_instruction};
 pub use error::AsmError;
 pub use laws::{meaning_of_line, text_assembles, texts_are_words, texts_differ};

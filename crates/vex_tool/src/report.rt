@@ -108,7 +108,7 @@ impl CodeRoom {
 pub fn write_error<K: Sink>(error: LineError, sink: &mut K) -> Result<(), Failed>
     ensures { Writes result (K.text sink.old) (K.text sink.new) (K.faults sink.old) (K.faults sink.new) (error_line (line_error_name error)) }
 {
-    sink.write_all(error_text(error.name()).as_slice())
+    sink.write_all(error_text(error.name()).as_str().as_bytes())
 }
 
 // Writes the report of a line that writes these bytes.
