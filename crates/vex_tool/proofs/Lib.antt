@@ -9,4 +9,5 @@ pub mod RunLemmas
 pub mod RunClauses
 pub mod Texts
 pub mod Results
+pub mod Assembled
 mod Computed

@@ -5,7 +5,7 @@ use Rattle.std.specs.Io.KnownBytes.{Appends, Consumes, IsAtEnd}
 use Rattle.std.proofs.lemmas.Bool.{cases_lt}
 use Rattle.std.proofs.lemmas.List.{append-nil, length-append}
 use Rattle.vex_tool.specs.declared.command.Command.{Command}
-use Rattle.vex_tool.specs.declared.command.Command.TheVariants.{Recode, Sweep, Notes}
+use Rattle.vex_tool.specs.declared.command.Command.TheVariants.{Recode, Sweep, Notes, Asm}
 use Rattle.vex_tool.specs.declared.status.Status.{Status}
 use Rattle.vex_tool.specs.declared.status.Status.TheVariants.{Done, ReadFault, Usage, WriteFault, NoMemory, TooLong}
 use Rattle.vex_tool.specs.Ends.{AppendsFront, IsQuiet, RoseByMoreThan, WhereTaken, counted}
@@ -72,6 +72,7 @@ takes-memory : (c : Command) (line : List ℕ) → MayLackMemory c line → IsTr
 takes-memory (Recode settings) line h = absurd h
 takes-memory (Sweep settings) line h = refl
 takes-memory (Notes settings) line h = absurd h
+takes-memory (Asm settings) line h = absurd h
 
 apart : (b : Bool) → IsTrue b → IsFalse b → ⊥
 apart true is isnt = cc

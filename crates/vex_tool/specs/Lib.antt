@@ -6,6 +6,7 @@ pub mod Lines
 pub mod Command
 pub mod ErrorLine
 pub mod ResultLine
+pub mod AsmLine
 pub mod Laws
 pub mod SweepLines
 pub mod NoteLines

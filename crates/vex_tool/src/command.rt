@@ -16,11 +16,13 @@ pub enum Command {
     Sweep(InstDecoder),
     /// Write the notes on the bytes of each line, and then a result line, under these settings.
     Notes(InstDecoder),
+    /// Write the canonical bytes of the meaning that each line writes, under these settings.
+    Asm(InstDecoder),
 }
 
 impl Command {
-    /// The command that the words ask for, `None` where they aren't `recode`, `sweep` or
-    /// `notes` and the name of a profile. Whether a word was refused plays no part.
+    /// The command that the words ask for, `None` where they aren't `recode`, `sweep`,
+    /// `notes` or `asm` and the name of a profile. Whether a word was refused plays no part.
     pub fn of(words: &Words) -> Option<Command>
         ensures { result ≡ command words.now.0 }
     {
@@ -38,6 +40,7 @@ impl Command {
             "recode" => profile(name).map(Command::Recode),
             "sweep" => profile(name).map(Command::Sweep),
             "notes" => profile(name).map(Command::Notes),
+            "asm" => profile(name).map(Command::Asm),
             _ => None,
         }
     }

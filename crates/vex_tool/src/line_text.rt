@@ -1,6 +1,6 @@
 //! The text of a line of the output, put together in a fixed buffer.
 
-ghost use Rattle.std.specs.Prelude.{◌≡◌, ◌≤◌, ◌+◌, ◌++◌, length, IsUtf8};
+ghost use Rattle.std.specs.Prelude.{◌≡◌, ◌≤◌, ◌+◌, ◌++◌, codes, length, IsUtf8};
 ghost use Rattle.arrayvec.specs.ArrayString.{array_string_len};
 ghost use Rattle.hex.specs.Hex.{encode_lower};
 ghost use Rattle.x86_operand.specs.Note.{note_text};
@@ -64,6 +64,16 @@ pub fn instruction_text(instruction: &Instruction, spelling: &Spelling) -> LineT
 {
     let mut text = LineText::new();
     push_instruction(&mut text, instruction, spelling);
+    text
+}
+
+/// The line of canonical bytes: their hex digits and a line end.
+pub fn bytes_text(spelling: &Spelling) -> LineText
+    ensures { result.bytes ≡ encode_lower spelling.now ++ codes "\n" }
+{
+    let mut text = LineText::new();
+    push_hex(&mut text, spelling.as_slice());
+    text.push_str("\n");
     text
 }
 

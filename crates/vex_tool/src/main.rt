@@ -20,6 +20,7 @@ use std::process::ExitCode;
 use std_ends::{StdSink, StdSource};
 use words::{MAX_WORD_LEN, Words};
 
+mod asm_line;
 mod command;
 #[cfg(test)]
 mod edge_tests;
@@ -46,7 +47,7 @@ mod words;
 /// Runs the command that the words ask for, over all that the source has left.
 ///
 /// For each line of the input `recode P` writes one line, `sweep P` one for each instruction and one for the end, and
-/// `notes P` one for each note and then that of `recode P`. The status is `Usage` where the words are no command or one was refused. Else it is that of the first of these events: a
+/// `notes P` one for each note and then that of `recode P`, and `asm P` one. The status is `Usage` where the words are no command or one was refused. Else it is that of the first of these events: a
 /// read failed, a write failed, there was no memory for the sweep of a line, the source gave a byte after 2^26 bytes, or
 /// all is written and the input has ended. Only `sweep P` takes memory.
 pub fn run<S: Source, K: Sink>(alloc: Global, words: &Words, source: &mut S, sink: &mut K) -> Status
