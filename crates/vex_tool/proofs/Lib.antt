@@ -9,4 +9,6 @@ pub mod RunLemmas
 pub mod RunClauses
 pub mod Texts
 pub mod Results
+pub mod CountLemmas
+pub mod GeneratorLemmas
 mod Computed

@@ -1,7 +1,7 @@
-//! What holds of all result lines, each law as the contract of a function that does nothing, but for naming
+//! What holds of all result lines and recodings, each law as the contract of a function that does nothing, but for naming
 //! the law that it follows from.
 
-ghost use Rattle.vex_tool.specs.Laws.{LineOfError, LineOfSpelling};
+ghost use Rattle.vex_tool.specs.Laws.{LineOfError, LineOfSpelling, RecodingOfError, RecodingOfSpelling};
 
 use vex_decode::spelling_is_read;
 
@@ -10,6 +10,15 @@ use vex_decode::spelling_is_read;
 pub fn result_lines()
     ensures spelling { LineOfSpelling }
     ensures error { LineOfError }
+{
+    spelling_is_read();
+}
+
+/// The recoding of some bytes is the length and the canonical bytes of the spelling that begins them, and none where
+/// they are blocked.
+pub fn recodings()
+    ensures spelling { RecodingOfSpelling }
+    ensures error { RecodingOfError }
 {
     spelling_is_read();
 }

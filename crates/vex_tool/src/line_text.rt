@@ -28,7 +28,7 @@ pub const MAX_TEXT: usize = 256;
 pub type LineText = ArrayVec<u8, MAX_TEXT>;
 
 /// Appends some bytes.
-fn push_all(text: &mut LineText, piece: &[u8])
+pub fn push_all(text: &mut LineText, piece: &[u8])
     requires { array_vec_len text.old + length piece.now ≤ MAX_TEXT }
     ensures { text.new.items ≡ text.old.items ++ piece.now }
 {

@@ -131,6 +131,8 @@ fn write_code_report<K: Sink>(
             write_notes(settings, bytes, sink)?;
             Ok(())
         }
+        // It reads no lines.
+        Command::Make(_) => Ok(()),
     }
 }
 
