@@ -10,4 +10,6 @@ pub mod RunClauses
 pub mod Texts
 pub mod Results
 pub mod Assembled
+pub mod CountLemmas
+pub mod GeneratorLemmas
 mod Computed

@@ -10,6 +10,8 @@ pub mod AsmLine
 pub mod Laws
 pub mod SweepLines
 pub mod NoteLines
+pub mod Generator
+pub mod Totals
 pub mod Report
 pub mod LineMachine
 pub mod Run

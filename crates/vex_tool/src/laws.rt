@@ -1,7 +1,7 @@
-//! What holds of all result lines, each law as the contract of a function that does nothing, but for naming
+//! What holds of all result lines and recodings, each law as the contract of a function that does nothing, but for naming
 //! the law that it follows from.
 
-ghost use Rattle.vex_tool.specs.Laws.{LineOfError, LineOfNoText, LineOfSpelling, LineOfText, ResultAssembles};
+ghost use Rattle.vex_tool.specs.Laws.{LineOfError, LineOfNoText, LineOfSpelling, LineOfText, RecodingOfError, RecodingOfSpelling, ResultAssembles};
 
 use vex_asm::meaning_of_line;
 use vex_decode::spelling_is_read;
@@ -37,4 +37,13 @@ pub fn result_line_assembles(settings: &InstDecoder, bytes: &[u8])
         Ok((instruction, _)) => instruction_in_range(instruction),
         Err(_) => {}
     }
+}
+
+/// The recoding of some bytes is the length and the canonical bytes of the spelling that begins them, and none where
+/// they are blocked.
+pub fn recodings()
+    ensures spelling { RecodingOfSpelling }
+    ensures error { RecodingOfError }
+{
+    spelling_is_read();
 }

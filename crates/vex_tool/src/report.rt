@@ -136,6 +136,8 @@ fn write_code_report<K: Sink>(
             write_asm_line(settings, bytes, sink)?;
             Ok(())
         }
+        // It reads no lines.
+        Command::Make(_) => Ok(()),
     }
 }
 
