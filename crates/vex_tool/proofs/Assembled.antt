@@ -1,6 +1,5 @@
 -- The lines of texts that are assembled.
-use Rattle.std.proofs.Common.{◌≡◌, ℕ, Bool, List, true, Option, Some, None, Err, ◌++◌, codes, sym, ap, refl, ◌∙◌, ◌≤◌, length, take}
-use Rattle.hex.specs.Hex.{encode_lower}
+use Rattle.std.proofs.Common.{◌≡◌, ℕ, Bool, List, true, Option, Some, None, Err, codes, sym, ap, refl, ◌∙◌, ◌≤◌, length, take}
 use Rattle.x86_operand.specs.Meaning.{Meaning, Decoded}
 use Rattle.x86_operand.specs.Range.{IsMeaning}
 use Rattle.x86_permit.specs.Permission.{permits}
@@ -11,7 +10,7 @@ use Rattle.vex_asm.specs.declared.error.AsmError.{AsmError}
 use Rattle.vex_asm.specs.declared.error.AsmError.TheVariants.{BadText, NoSpelling}
 use Rattle.vex_asm.specs.Assembly.{Assembles, AssemblesAs}
 use Rattle.vex_asm.specs.Errors.{asm_error_name}
-use Rattle.vex_asm.specs.Laws.{IsTextOf, MeaningOfLine}
+use Rattle.vex_asm.specs.Laws.{MeaningOfLine}
 use Rattle.vex_asm.specs.Line.{meaning_of}
 use Rattle.vex_tool.specs.AsmLine.{asm_line, bytes_line, meaning_line}
 use Rattle.vex_tool.specs.ErrorLine.{error_line}
