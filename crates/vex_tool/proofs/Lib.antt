@@ -9,4 +9,7 @@ pub mod RunLemmas
 pub mod RunClauses
 pub mod Texts
 pub mod Results
+pub mod Assembled
+pub mod CountLemmas
+pub mod GeneratorLemmas
 mod Computed
