@@ -3,6 +3,7 @@ pub mod ReportLemmas
 pub mod LineMachineLemmas
 pub mod FeedLemmas
 pub mod WrittenLines
+pub mod LeastLinesLemmas
 pub mod SweepLinesLemmas
 pub mod NoteLinesLemmas
 pub mod RunLemmas

@@ -10,6 +10,7 @@ pub mod AsmLine
 pub mod Laws
 pub mod SweepLines
 pub mod NoteLines
+pub mod LeastLines
 pub mod Generator
 pub mod Totals
 pub mod Report

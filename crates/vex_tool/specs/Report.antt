@@ -5,7 +5,7 @@ use Rattle.hex.specs.declared.error.FromHexError.{FromHexError}
 use Rattle.vex_tool.specs.declared.command.Command.{Command}
 use Rattle.vex_tool.specs.Command.{count_made}
 use Rattle.vex_encode.specs.Sweep.{swept}
-use Rattle.vex_tool.specs.declared.command.Command.TheVariants.{Recode, Sweep, Notes, Asm, Make}
+use Rattle.vex_tool.specs.declared.command.Command.TheVariants.{Recode, Sweep, Notes, Asm, Least, Make}
 use Rattle.vex_tool.specs.declared.report.LineError.{LineError}
 use Rattle.vex_tool.specs.declared.report.LineError.TheVariants.{LongLine, BadHex}
 use Rattle.vex_tool.specs.ErrorLine.{error_line}
@@ -14,6 +14,7 @@ use Rattle.vex_tool.specs.ResultLine.{result_line}
 use Rattle.vex_tool.specs.SweepLines.{sweep_lines}
 use Rattle.vex_tool.specs.NoteLines.{note_lines}
 use Rattle.vex_tool.specs.AsmLine.{asm_line}
+use Rattle.vex_tool.specs.LeastLines.{least_lines}
 use Rattle.vex_tool.specs.Generator.{made}
 
 -- the name of an error
@@ -45,6 +46,7 @@ code_report (Recode settings) (Ok bytes) = result_line settings bytes
 code_report (Sweep settings) (Ok bytes) = sweep_lines (swept settings bytes)
 code_report (Notes settings) (Ok bytes) = note_lines settings bytes
 code_report (Asm settings) (Ok text) = asm_line settings text
+code_report Least (Ok bytes) = least_lines bytes
 code_report (Make count) (Ok bytes) = []
 
 -- what a command takes of a line: the line itself, which it reads as a text, or the bytes that it writes
@@ -72,6 +74,7 @@ MayLackMemory (Recode settings) line = ⊥
 MayLackMemory (Sweep settings) line = IsOk (code line)
 MayLackMemory (Notes settings) line = ⊥
 MayLackMemory (Asm settings) line = ⊥
+MayLackMemory Least line = ⊥
 MayLackMemory (Make count) line = ⊥
 
 -- whether a command takes memory
@@ -80,6 +83,7 @@ takes_memory (Recode settings) = false
 takes_memory (Sweep settings) = true
 takes_memory (Notes settings) = false
 takes_memory (Asm settings) = false
+takes_memory Least = false
 takes_memory (Make count) = false
 
 -- of the lines of these bytes, those before one that there was no memory for were answered

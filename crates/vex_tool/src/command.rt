@@ -1,7 +1,7 @@
 //! The commands, and how the words of the command line ask for one.
 
 ghost use Rattle.std.specs.Prelude.{◌≡◌, ◌≤◌, IfSome};
-ghost use Rattle.vex_tool.specs.Command.{command, command_of_two, count_made, count_of, count_written};
+ghost use Rattle.vex_tool.specs.Command.{command, command_of_one, command_of_two, count_made, count_of, count_written};
 
 use crate::words::Words;
 use itoa::Buffer;
@@ -19,6 +19,8 @@ pub enum Command {
     Notes(InstDecoder),
     /// Write the canonical bytes of the meaning that each line writes, under these settings.
     Asm(InstDecoder),
+    /// Write what the run of instructions of each line needs, and the profiles that have it.
+    Least,
     /// Generate so many spellings, 1 to 1,000,000, and write a line that sums up how they are recoded.
     Make(u32),
 }
@@ -53,12 +55,23 @@ fn count_of(word: &str) -> Option<u32>
 
 impl Command {
     /// The command that the words ask for, `None` where they aren't `recode`, `sweep`,
-    /// `notes` or `asm` and the name of a profile, or `make` and a number. Whether a word was refused plays no part.
+    /// `notes` or `asm` and the name of a profile, `least`, or `make` and a number. Whether a word was refused plays no part.
     pub fn of(words: &Words) -> Option<Command>
         ensures { result ≡ command words.now.0 }
     {
         match (words.get(0), words.get(1), words.get(2)) {
+            (Some(verb), None, None) => Command::of_one(verb),
             (Some(verb), Some(name), None) => Command::of_two(verb, name),
+            _ => None,
+        }
+    }
+
+    // The command of one word.
+    fn of_one(verb: &str) -> Option<Command>
+        ensures { result ≡ command_of_one verb.now }
+    {
+        match verb {
+            "least" => Some(Command::Least),
             _ => None,
         }
     }
@@ -82,7 +95,11 @@ impl Command {
         ensures { result ≡ count_made self.now }
     {
         match self {
-            Command::Recode(_) | Command::Sweep(_) | Command::Notes(_) | Command::Asm(_) => None,
+            Command::Recode(_)
+            | Command::Sweep(_)
+            | Command::Notes(_)
+            | Command::Asm(_)
+            | Command::Least => None,
             Command::Make(count) => Some(*count),
         }
     }

@@ -10,6 +10,7 @@ use crate::asm_line::write_asm_line;
 use crate::command::Command;
 use crate::ends::{Failed, Sink};
 use crate::halt::Halt;
+use crate::least_lines::write_least;
 use crate::line_text::error_text;
 use crate::note_lines::write_notes;
 use crate::result_line::write_result_line;
@@ -134,6 +135,10 @@ fn write_code_report<K: Sink>(
         }
         Command::Asm(settings) => {
             write_asm_line(settings, bytes, sink)?;
+            Ok(())
+        }
+        Command::Least => {
+            write_least(bytes, sink)?;
             Ok(())
         }
         // It reads no lines.
