@@ -1,5 +1,5 @@
-//! What holds of all result lines and recodings, each law as the contract of a function that does nothing, but for naming
-//! the law that it follows from.
+//! What holds of all result lines and recodings, each law as the contract of a function that does nothing, but for
+//! naming the law that it follows from.
 
 ghost use Rattle.vex_tool.specs.Laws.{LineOfError, LineOfSpelling, RecodingOfError, RecodingOfSpelling};
 

@@ -53,8 +53,9 @@ mod words;
 ///
 /// For each line of the input `recode P` writes one line, `sweep P` one for each instruction and one for the end, and
 /// `notes P` one for each note and then that of `recode P`. `make N` reads nothing, and writes one line. The status is
-/// `Usage` where the words are no command or one was refused. Else it is that of the first of these events: a read failed, a write failed, there was no memory for the sweep of a line, the source gave a byte after 2^26 bytes, or
-/// all is written and the input has ended. Only `sweep P` takes memory.
+/// `Usage` where the words are no command or one was refused. Else it is that of the first of these events: a read
+/// failed, a write failed, there was no memory for the sweep of a line, the source gave a byte after 2^26 bytes, or all
+/// is written and the input has ended. Only `sweep P` takes memory.
 pub fn run<S: Source, K: Sink>(alloc: Global, words: &Words, source: &mut S, sink: &mut K) -> Status
     // `Usage` comes exactly where the words are no command or one was refused, and changes nothing.
     ensures usage { (result ≡ Status.Usage) ↔ (IsNone (command words.now.0) ⊎ IsTrue words.now.1) }
