@@ -52,8 +52,8 @@ fn asm_text(settings: &InstDecoder, line: &[u8]) -> LineText
     }
 }
 
-/// Writes the canonical bytes of the meaning that a line writes, or why there are none under settings, in one write. `Failed`
-/// where the sink's write fails.
+/// Writes the canonical bytes of the meaning that a line writes, or why there are none under settings, in one write.
+/// `Failed` where the sink's write fails.
 pub fn write_asm_line<K: Sink>(
     settings: &InstDecoder,
     line: &[u8],

@@ -1,5 +1,5 @@
-//! What holds of all result lines and recodings, each law as the contract of a function that does nothing, but for naming
-//! the law that it follows from.
+//! What holds of all result lines, lines of texts and recodings, each law as the contract of a function that does
+//! nothing, but for calls that it follows from.
 
 ghost use Rattle.vex_tool.specs.Laws.{LineOfError, LineOfNoText, LineOfSpelling, LineOfText, RecodingOfError, RecodingOfSpelling, ResultAssembles};
 
@@ -18,8 +18,8 @@ pub fn result_lines()
     spelling_is_read();
 }
 
-/// The line of `asm` for a line that writes a meaning is that of its canonical bytes, or of `NoSpelling`, or, where its opcode
-/// isn't permitted, of `InvalidOpcode`; and for a line that writes none that of `BadText`.
+/// The line of `asm` for a line that writes a meaning is that of its canonical bytes, or of `NoSpelling`, or, where its
+/// opcode isn't permitted, of `InvalidOpcode`; and for a line that writes none that of `BadText`.
 pub fn assembled_lines()
     ensures text { LineOfText }
     ensures no_text { LineOfNoText }
@@ -27,7 +27,8 @@ pub fn assembled_lines()
     meaning_of_line();
 }
 
-/// The words of a result line between the length and the bytes at its end assemble, under the same settings, to those bytes.
+/// The words of a result line between the length and the bytes at its end assemble, under the same settings, to those
+/// bytes.
 pub fn result_line_assembles(settings: &InstDecoder, bytes: &[u8])
     ensures { ResultAssembles settings.now bytes.now }
 {
