@@ -109,14 +109,14 @@ unfolding profiles_line
 gathered-line wanted names text are gathered =
     let words = flat_map (profile_word wanted) microarchitectures in
     let is : text ≡ codes "profiles" ++ words =
-        gathered.text_is
-        ∙ ap (λ ns. codes "profiles" ++ flat_map (seen_word wanted) ns) (take-all names)
-        ∙ ap (λ t. codes "profiles" ++ t) (seen_words wanted names ∙ ap (flat_map (profile_word wanted)) are) in
+    gathered.text_is
+    ∙ ap (λ ns. codes "profiles" ++ flat_map (seen_word wanted) ns) (take-all names)
+    ∙ ap (λ t. codes "profiles" ++ t) (seen_words wanted names ∙ ap (flat_map (profile_word wanted)) are) in
     ap (λ t. (t ++ (if nat_eq (length t) 8 then codes " -" else [])) ++ codes "\n") is
     ∙ ap (λ t. t ++ codes "\n") (dashed words)
     ∙ append_assoc (codes "profiles") (or_dash words) (codes "\n") where
-  take-all : (xs : List (Bor (List ℕ))) → take (length xs) xs ≡ xs
-  take-all xs = take-length xs
+      take-all : (xs : List (Bor (List ℕ))) → take (length xs) xs ≡ xs
+      take-all xs = take-length xs
 
 -- how long the text is at most
 pub gathered-room : (wanted : List Bool) (names : List (Bor (List ℕ))) (i : ℕ) (text : List ℕ) → AreNames names → i ≤ length names

@@ -1,4 +1,5 @@
-//! Lines of code and what `recode` answers, one for each rule of decoding and encoding, and texts and what `asm` answers.
+//! Lines of code and what `recode` answers, one for each rule of decoding and encoding, texts and what `asm` answers, and
+//! runs of instructions and what `least` answers.
 
 use crate::laws::{assembled_lines, result_line_assembles};
 use crate::memory_ends::{MemSink, MemSource};
@@ -98,13 +99,39 @@ static TEXTS: [(&str, &[u8], &[u8]); 19] = [
     ("haswell", b"VFMADD213SD x0 x1 x2 0", b"c4e2f1a9c2\n"),
 ];
 
+/// A line, and what `least` answers: the bits that its instructions need, each with the first that does, and the profiles
+/// that have them all; or where it stops.
+#[rattlefmt::skip]
+static RUNS: [(&[u8], &[u8]); 8] = [
+    (b"C5 FA 10 07 C5 FA 58 06 C4 E3 7B F0 C1 05",
+        b"need avx 0 VMOVSS\nneed bmi2 8 RORX\n\
+        profiles excavator zen zen2 zen3 zen4 zen5 haswell haswell_ex broadwell skylake kabylake\n"),
+    (b"C4 E2 79 DC C1 C4 E2 79 13 C1",
+        b"need aesni 0 VAESENC\nneed avx 0 VAESENC\nneed f16c 5 VCVTPH2PS\n\
+        profiles bulldozer piledriver steamroller excavator zen zen2 zen3 zen4 zen5 \
+        ivybridge haswell haswell_ex broadwell skylake kabylake\n"),
+    (b"C4 E2 70 F2 C2",
+        b"need bmi1 0 ANDN\n\
+        profiles bulldozer piledriver steamroller excavator zen zen2 zen3 zen4 zen5 \
+        haswell haswell_ex broadwell skylake kabylake\n"),
+    (b"C5 F8 77 33", b"stopped 3 Outside\n"),
+    (b"C4 E2 70 F2 C2 C5 F8", b"stopped 5 ExhaustedInput\n"),
+    (b"C5 F1 71 CA 04", b"stopped 0 InvalidOpcode\n"),
+    (b"\n",
+        b"profiles k8 k10 bulldozer piledriver steamroller excavator zen zen2 zen3 zen4 zen5 \
+        netburst core penryn nehalem westmere sandybridge ivybridge haswell haswell_ex broadwell skylake kabylake\n"),
+    (b"c5f", b"error BadHex\n"),
+];
+
 // Runs a command under a profile over a line, and wants this text.
 fn check(rt: &impl Abort, alloc: Global, verb: &str, profile: &str, line: &[u8], text: &[u8]) {
     let mut words = Words::new();
     words.push(verb);
-    words.push(profile);
+    if profile != "" {
+        words.push(profile);
+    }
     let mut source = MemSource::new(line, 4096, &[]);
-    let mut room = [0u8; 100];
+    let mut room = [0u8; 256];
     let mut sink = MemSink::new(&mut room, &[]);
     let status = run(alloc, &words, &mut source, &mut sink);
     assert_eq!(rt; status.code(), 0);
@@ -125,4 +152,11 @@ fn texts_are_assembled(rt: HostRuntime) {
     }
     assembled_lines();
     result_line_assembles(&InstDecoder::default(), b"\xc5\xf8\x77");
+}
+
+#[test]
+fn runs_need_the_bits_of_their_instructions(rt: HostRuntime) {
+    for (line, text) in RUNS.iter() {
+        check(&rt, rt.alloc(), "least", "", line, text);
+    }
 }
