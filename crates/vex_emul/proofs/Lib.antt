@@ -1,0 +1,5 @@
+pub mod LaneLemmas
+pub mod Padded
+pub mod Running
+pub mod Suiting
+pub mod SubsetRows

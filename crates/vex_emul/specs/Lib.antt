@@ -1,0 +1,7 @@
+pub mod Lanes
+pub mod Machine
+pub mod Operation
+pub mod Work
+pub mod Subset
+pub mod Run
+pub mod Laws
