@@ -6,3 +6,5 @@ pub mod LineParts
 pub mod Operands
 pub mod Meanings
 pub mod Written
+pub mod Lines
+pub mod Assembling

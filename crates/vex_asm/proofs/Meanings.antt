@@ -105,7 +105,7 @@ spelled line w ws m split front back =
       text = ap (join_with_byte 32) same;
     }
 
-marked_dot : (bs : List ℕ) → is_name (codes "EVEX." ++ bs) ≡ true → ⊥
+pub marked_dot : (bs : List ℕ) → is_name (codes "EVEX." ++ bs) ≡ true → ⊥
 marked_dot bs h = cc
 
 -- a name with the mark before it is told apart from a name without

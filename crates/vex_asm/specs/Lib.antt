@@ -3,3 +3,5 @@ pub mod Errors
 pub mod Laws
 pub mod Written
 pub mod Parsed
+pub mod Line
+pub mod Assembly

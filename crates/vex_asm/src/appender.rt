@@ -19,8 +19,18 @@ pub const MAX_TEXT: usize = 256;
 /// space, and 4 of the size with its space.
 pub const MAX_MEANING: usize = 133;
 
-// Appends a number in decimal.
-fn append_number(buffer: &mut ArrayString<MAX_TEXT>, number: u8)
+/// Appends a number in decimal. The caller leaves room for 20 bytes.
+pub fn append_number(buffer: &mut ArrayString<MAX_TEXT>, number: usize)
+    requires room { array_string_len buffer.old + 20 ≤ MAX_TEXT }
+    ensures written { buffer.new.bytes ≡ buffer.old.bytes ++ decimal number }
+    ensures short { array_string_len buffer.new ≤ array_string_len buffer.old + 20 }
+{
+    let mut digits = Buffer::new();
+    buffer.push_str(digits.format(number));
+}
+
+// Appends a number of one byte in decimal.
+fn append_byte(buffer: &mut ArrayString<MAX_TEXT>, number: u8)
     requires { array_string_len buffer.old + 3 ≤ MAX_TEXT }
     ensures written { buffer.new.bytes ≡ buffer.old.bytes ++ decimal number }
     ensures short { array_string_len buffer.new ≤ array_string_len buffer.old + 3 }
@@ -39,9 +49,9 @@ fn append_signed(buffer: &mut ArrayString<MAX_TEXT>, number: i32)
     buffer.push_str(digits.format(number));
 }
 
-// Appends a register: the letter of its bank and its number, or `rip`.
-fn append_register(buffer: &mut ArrayString<MAX_TEXT>, reg: RegSpec)
-    requires { array_string_len buffer.old + 4 ≤ MAX_TEXT }
+/// Appends a register: the letter of its bank and its number, or `rip`. The caller leaves room for 4 bytes.
+pub fn append_register(buffer: &mut ArrayString<MAX_TEXT>, reg: RegSpec)
+    requires room { array_string_len buffer.old + 4 ≤ MAX_TEXT }
     ensures written { buffer.new.bytes ≡ buffer.old.bytes ++ register_text reg }
     ensures short { array_string_len buffer.new ≤ array_string_len buffer.old + 4 }
 {
@@ -55,7 +65,7 @@ fn append_register(buffer: &mut ArrayString<MAX_TEXT>, reg: RegSpec)
     };
     buffer.push_str(letter);
     if reg.bank() != RegisterBank::RIP {
-        append_number(buffer, reg.num());
+        append_byte(buffer, reg.num());
     }
 }
 
@@ -81,7 +91,7 @@ fn append_index(buffer: &mut ArrayString<MAX_TEXT>, index: Option<Index>)
         Some(index) => {
             append_register(buffer, index.reg);
             buffer.push_str("*");
-            append_number(buffer, index.scale);
+            append_byte(buffer, index.scale);
         }
         None => buffer.push_str("-"),
     }
@@ -115,7 +125,7 @@ fn append_operand(buffer: &mut ArrayString<MAX_TEXT>, operand: &Operand)
         }
         Operand::ImmediateU8 { imm } => {
             buffer.push_str("u");
-            append_number(buffer, *imm);
+            append_byte(buffer, *imm);
         }
         Operand::MemDeref { base } => append_address(
             buffer,
@@ -153,10 +163,10 @@ fn append_mark(buffer: &mut ArrayString<MAX_TEXT>, evex: bool)
     }
 }
 
-// Appends an opcode's name.
+/// Appends an opcode's name. The caller leaves room for 16 bytes.
 #[tactic(auto, using(crate::proofs::Names::name_short))]
-fn append_name(buffer: &mut ArrayString<MAX_TEXT>, opcode: Opcode)
-    requires { array_string_len buffer.old + 16 ≤ MAX_TEXT }
+pub fn append_name(buffer: &mut ArrayString<MAX_TEXT>, opcode: Opcode)
+    requires room { array_string_len buffer.old + 16 ≤ MAX_TEXT }
     ensures written { buffer.new.bytes ≡ buffer.old.bytes ++ opcode_name opcode }
     ensures short { array_string_len buffer.new ≤ array_string_len buffer.old + 16 }
 {
@@ -187,5 +197,5 @@ pub fn append(buffer: &mut ArrayString<MAX_TEXT>, instruction: &Instruction)
     append_name(buffer, instruction.opcode());
     append_operands(buffer, instruction);
     buffer.push_str(" ");
-    append_number(buffer, size_of(instruction));
+    append_byte(buffer, size_of(instruction));
 }

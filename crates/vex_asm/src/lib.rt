@@ -2,6 +2,9 @@
 #![tactic(auto)]
 
 mod appender;
+mod assembler;
+#[cfg(test)]
+mod assembler_tests;
 mod error;
 mod laws;
 mod number;
@@ -12,8 +15,9 @@ mod reader;
 mod tests;
 mod words;
 
-pub use appender::{MAX_MEANING, MAX_TEXT, append};
+pub use appender::{MAX_MEANING, MAX_TEXT, append, append_name, append_number, append_register};
+pub use assembler::{assemble, assemble_instruction};
 pub use error::AsmError;
-pub use laws::{texts_are_words, texts_differ};
+pub use laws::{meaning_of_line, text_assembles, texts_are_words, texts_differ};
 pub use printer::{MeaningText, print};
 pub use reader::read;

@@ -1,4 +1,8 @@
-use crate::{AsmError, print, read, texts_are_words, texts_differ};
+use crate::{
+    AsmError, MAX_TEXT, append, append_name, append_number, append_register, print, read,
+    texts_are_words, texts_differ,
+};
+use arrayvec::ArrayString;
 use std::test::Fail;
 use x86_operand::{
     Address, Index, Instruction, MemoryAccessSize, Opcode, Operand, RegSpec, RegisterBank,
@@ -66,6 +70,16 @@ fn means_what_the_text_says(rt: HostRuntime) {
     );
     texts_differ();
     texts_are_words();
+}
+
+#[test]
+fn appends_behind_what_is_there(rt: HostRuntime) {
+    let mut text = ArrayString::<MAX_TEXT>::new();
+    append_number(&mut text, 18446744073709551615);
+    append_name(&mut text, Opcode::VADDPS);
+    append_register(&mut text, RegSpec::rcx());
+    append(&mut text, &Instruction::default());
+    assert_eq!(rt; text.as_str(), "18446744073709551615VADDPSq1Invalid 0");
 }
 
 #[test]

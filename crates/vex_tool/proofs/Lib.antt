@@ -3,10 +3,14 @@ pub mod ReportLemmas
 pub mod LineMachineLemmas
 pub mod FeedLemmas
 pub mod WrittenLines
+pub mod LeastLinesLemmas
 pub mod SweepLinesLemmas
 pub mod NoteLinesLemmas
 pub mod RunLemmas
 pub mod RunClauses
 pub mod Texts
 pub mod Results
+pub mod Assembled
+pub mod CountLemmas
+pub mod GeneratorLemmas
 mod Computed

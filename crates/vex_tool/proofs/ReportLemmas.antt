@@ -1,13 +1,14 @@
 -- What is written for a line, by what decoding its digits answered.
-use Rattle.std.proofs.Common.{◌≡◌, ℕ, ◌/◌, ◌≤◌, Bool, true, cond, ltb, List, ◌++◌, length, take, Result, Ok, Err, ap, ◌∙◌, sym, refl, arith}
+use Rattle.std.proofs.Common.{◌≡◌, ℕ, ◌/◌, ◌<◌, ◌≤◌, Bool, true, cond, ltb, List, ◌++◌, length, take, Result, Ok, Err, ap, ◌∙◌, sym, refl, arith}
 use Rattle.std.specs.Prelude.{MatchResult}
 use Rattle.std.proofs.lemmas.Bool.Decides.{nat_tests}
 use Rattle.std.proofs.lemmas.List.{take_at}
 use Rattle.hex.specs.Hex.{decode_of, decode_sized}
 use Rattle.hex.specs.declared.error.FromHexError.{FromHexError}
 use Rattle.vex_tool.specs.declared.command.Command.{Command}
+use Rattle.vex_tool.specs.declared.command.Command.TheVariants.{Recode, Sweep, Notes, Asm, Least, Make}
 use Rattle.vex_tool.specs.declared.report.LineError.TheVariants.{BadHex, LongLine}
-use Rattle.vex_tool.specs.Report.{report, code, code_report, digits, or_bad_hex}
+use Rattle.vex_tool.specs.Report.{report, code, code_report, digits, or_bad_hex, taken}
 use Rattle.vex_tool.proofs.LineMachineLemmas.{SameForLong}
 
 -- room for half as many bytes as there are digits is as good as any
@@ -58,11 +59,24 @@ pub bytes-refused : (text room out : List ℕ) (answer : Result (Unit {0}) FromH
 bytes-refused text room out answer d h e =
     from_decoded text room out answer h ∙ decoded_err (decode_sized text (length room)) answer out d h.decoded e
 
+-- nothing is taken of a line that is too long
+code-long : (line : List ℕ) → 8192 < length line → code line ≡ Err LongLine
+unfolding code
+code-long line long =
+    let above : ltb 8192 (length line) ≡ true = grind (arith, nat_tests) in
+    ap (λ (b : Bool). cond b (Err LongLine) (or_bad_hex (decode_of (digits line)))) above
+
+taken-long : (c : Command) (line : List ℕ) → 8192 < length line → taken c line ≡ Err LongLine
+taken-long (Asm settings) line long =
+    let above : ltb 8192 (length line) ≡ true = grind (arith, nat_tests) in
+    ap (λ (b : Bool). cond b (Err LongLine) (Ok line)) above
+taken-long (Recode settings) line long = code-long line long
+taken-long (Sweep settings) line long = code-long line long
+taken-long (Notes settings) line long = code-long line long
+taken-long Least line long = code-long line long
+taken-long (Make count) line long = code-long line long
+
 -- all lines that are too long have the same report
 pub SameForLong-report : (c : Command) → SameForLong (report c)
-unfolding report code
-SameForLong-report c = record {
-  same = λ line long.
-      let above : ltb 8192 (length line) ≡ true = grind (arith, nat_tests) in
-      ap (λ (b : Bool). code_report c (cond b (Err LongLine) (or_bad_hex (decode_of (digits line))))) above;
-}
+unfolding report
+SameForLong-report c = record { same = λ line long. ap (code_report c) (taken-long c line long) }

@@ -1,18 +1,20 @@
 -- What a run did, clause by clause.
-use Rattle.std.proofs.Common.{◌≡◌, ℕ, ◌+◌, ◌<◌, ◌≤◌, List, ◌++◌, length, take, Option, Some, None, sym, ap, ◌∙◌, subst, refl, inl, inr, arith}
-use Rattle.std.specs.Prelude.{◌↔◌, ◌⊎◌, Bool, true, false, IfSome, IsFalse, IsSomeAnd, IsTrue}
+use Rattle.std.proofs.Common.{◌≡◌, ℕ, ◌+◌, ◌<◌, ◌≤◌, List, [], ◌++◌, length, take, Option, Some, None, sym, ap, ◌∙◌, subst, refl, inl, inr, arith}
+use Rattle.std.specs.Prelude.{flat_map, ◌↔◌, ◌⊎◌, Bool, true, false, IfSome, IsFalse, IsSomeAnd, IsTrue}
 use Rattle.std.specs.Io.KnownBytes.{Appends, Consumes, IsAtEnd}
 use Rattle.std.proofs.lemmas.Bool.{cases_lt}
 use Rattle.std.proofs.lemmas.List.{append-nil, length-append}
 use Rattle.vex_tool.specs.declared.command.Command.{Command}
-use Rattle.vex_tool.specs.declared.command.Command.TheVariants.{Recode, Sweep, Notes}
+use Rattle.vex_tool.specs.declared.command.Command.TheVariants.{Recode, Sweep, Notes, Asm, Least, Make}
 use Rattle.vex_tool.specs.declared.status.Status.{Status}
 use Rattle.vex_tool.specs.declared.status.Status.TheVariants.{Done, ReadFault, Usage, WriteFault, NoMemory, TooLong}
 use Rattle.vex_tool.specs.Ends.{AppendsFront, IsQuiet, RoseByMoreThan, WhereTaken, counted}
-use Rattle.vex_tool.specs.Lines.{whole}
-use Rattle.vex_tool.specs.Report.{report, output, takes_memory, LackedMemory, MayLackMemory}
+use Rattle.vex_tool.specs.Lines.{lines, whole}
+use Rattle.vex_tool.specs.Command.{count_made}
+use Rattle.vex_tool.specs.Generator.{made}
+use Rattle.vex_tool.specs.Report.{report, output, output_by, takes_memory, LackedMemory, MayLackMemory}
 use Rattle.vex_tool.specs.Run.{EndsBy, Moment, Ran, input_limit}
-use Rattle.vex_tool.proofs.EndsLemmas.{WhereTaken-from}
+use Rattle.vex_tool.proofs.EndsLemmas.{Consumes-none, WhereTaken-from}
 
 -- a fact of the value that an option has
 pub IfSome-at : {A : Type 0} (o : Option A) (x : A) (P : A → Type 0) → o ≡ Some x → P x → IfSome o P
@@ -72,21 +74,43 @@ takes-memory : (c : Command) (line : List ℕ) → MayLackMemory c line → IsTr
 takes-memory (Recode settings) line h = absurd h
 takes-memory (Sweep settings) line h = refl
 takes-memory (Notes settings) line h = absurd h
+takes-memory (Asm settings) line h = absurd h
+takes-memory Least line h = absurd h
+takes-memory (Make count) line h = absurd h
 
 apart : (b : Bool) → IsTrue b → IsFalse b → ⊥
 apart true is isnt = cc
 apart false is isnt = cc
 
-module _ (c : Command) (status : Status) (before after : Moment) (ran : Ran (report c) (MayLackMemory c) status before after) where
+-- what a command writes that makes spellings, and one that reads lines
+pub output-made : (c : Command) (count : ℕ) (bytes : List ℕ) → count_made c ≡ Some count → output c bytes ≡ made count
+unfolding output
+output-made c count bytes e = ap (λ o. output_by o c bytes) e
+
+pub output-lines : (c : Command) (bytes : List ℕ) → count_made c ≡ None → output c bytes ≡ flat_map (report c) (lines bytes)
+unfolding output
+output-lines c bytes e = ap (λ o. output_by o c bytes) e
+
+-- the line of a command that makes spellings, whatever the source had left
+pub made_written : (c : Command) (count : ℕ) (left old new : Option (List ℕ)) → count_made c ≡ Some count → Appends old new (made count)
+    → IfSome left (λ input. Appends old new (output c input))
+made_written c count None old new e written = tt
+made_written c count (Some input) old new e written = rw (output-made c count input e) written
+
+pub made_front : (c : Command) (count : ℕ) (left old new : Option (List ℕ)) → count_made c ≡ Some count → AppendsFront old new (made count)
+    → WhereTaken left left (λ taken. AppendsFront old new (output c taken))
+made_front c count left old new e written =
+    WhereTaken-from left left _ [] (Consumes-none left) (rw (output-made c count [] e) written)
+
+module _ (c : Command) (status : Status) (before after : Moment) (reads : count_made c ≡ None) (ran : Ran (report c) (MayLackMemory c) status before after) where
   -- the run, where its status is known
   by : (known : Status) → status ≡ known → Ran (report c) (MayLackMemory c) known before after
   by known e = subst (λ s. Ran (report c) (MayLackMemory c) s before after) e ran
 
   pub done_written : status ≡ Done → IfSome before.left (λ input. Appends before.text after.text (output c input))
-  unfolding output
   done_written e =
       let done = by Done e in
-      IfSome-taken before.left after.left done.bytes _ done.taken done.ends.at_end done.ends.written
+      IfSome-taken before.left after.left done.bytes _ done.taken done.ends.at_end (rw (output-lines c done.bytes reads) done.ends.written)
 
   pub too_long : status ≡ TooLong → RoseByMoreThan input_limit before.given after.given
   too_long e =
@@ -104,22 +128,19 @@ module _ (c : Command) (status : Status) (before after : Moment) (ran : Ran (rep
       WhereTaken-from before.left after.left _ ran.bytes ran.taken (past_limit status (report c) (MayLackMemory c) ran.bytes before after ran.ends)
 
   pub after_read_fault : status ≡ ReadFault → WhereTaken before.left after.left (λ taken. Appends before.text after.text (output c (whole taken)))
-  unfolding output
   after_read_fault e =
       let failed = by ReadFault e in
-      WhereTaken-from before.left after.left _ failed.bytes failed.taken failed.ends.written
+      WhereTaken-from before.left after.left _ failed.bytes failed.taken (rw (output-lines c (whole failed.bytes) reads) failed.ends.written)
 
   pub after_write_fault : status ≡ WriteFault → WhereTaken before.left after.left (λ taken. AppendsFront before.text after.text (output c taken))
-  unfolding output
   after_write_fault e =
       let failed = by WriteFault e in
-      WhereTaken-from before.left after.left _ failed.bytes failed.taken failed.ends.written
+      WhereTaken-from before.left after.left _ failed.bytes failed.taken (rw (output-lines c failed.bytes reads) failed.ends.written)
 
   pub after_too_long : status ≡ TooLong → WhereTaken before.left after.left (λ taken. Appends before.text after.text (output c (whole (take input_limit taken))))
-  unfolding output
   after_too_long e =
       let long = by TooLong e in
-      WhereTaken-from before.left after.left _ long.bytes long.taken long.ends.written
+      WhereTaken-from before.left after.left _ long.bytes long.taken (rw (output-lines c (whole (take input_limit long.bytes)) reads) long.ends.written)
 
   pub completes_or_lacks : IsQuiet before.source_faults after.source_faults → IsQuiet before.sink_faults after.sink_faults
       → IsSomeAnd before.left (λ input. length input ≤ input_limit) → (status ≡ Done) ⊎ (status ≡ NoMemory)

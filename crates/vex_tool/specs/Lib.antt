@@ -6,9 +6,13 @@ pub mod Lines
 pub mod Command
 pub mod ErrorLine
 pub mod ResultLine
+pub mod AsmLine
 pub mod Laws
 pub mod SweepLines
 pub mod NoteLines
+pub mod LeastLines
+pub mod Generator
+pub mod Totals
 pub mod Report
 pub mod LineMachine
 pub mod Run

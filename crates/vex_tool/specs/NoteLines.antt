@@ -12,7 +12,8 @@ use Rattle.vex_decode.specs.Spelling.{Syntax}
 use Rattle.vex_decode.specs.Walk.{walk}
 use Rattle.vex_decode.specs.Blocked.{blocked}
 use Rattle.vex_decode.specs.Notes.{NoteAt, notes}
-use Rattle.vex_tool.specs.ResultLine.{register_text, result_line}
+use Rattle.vex_asm.specs.Text.{register_text}
+use Rattle.vex_tool.specs.ResultLine.{result_line}
 
 -- what stands in a field: the text of its note, the number of the field vvvv with the register of that number, or the
 -- opcode's name

@@ -1,8 +1,13 @@
-//! Lines of code and what `recode` answers, one for each rule of decoding and encoding.
+//! Lines of code and what `recode` answers, one for each rule of decoding and encoding, texts and what `asm` answers, and
+//! runs of instructions and what `least` answers.
 
+use crate::laws::{assembled_lines, result_line_assembles};
 use crate::memory_ends::{MemSink, MemSource};
 use crate::run;
 use crate::words::Words;
+use std::alloc::Global;
+use std::process::Abort;
+use x86_settings::InstDecoder;
 
 /// A profile, a line, and its answer: lengths and prefixes, operands in memory, another entry that is shorter, the order
 /// of the steps that refuse, groups, gathers, W and L, bits that play no part, and profiles.
@@ -69,17 +74,89 @@ static LINES: [(&str, &[u8], &[u8]); 59] = [
     ("default", b"C5 00 AE 10", b"4 VLDMXCSR mq0/-/0 4 c5f8ae10\n"),
 ];
 
+/// A profile, a line of words, and what `asm` answers: canonical bytes, what is no text, what no bytes spell, what the
+/// settings don't permit, and that these are tested in this order.
+#[rattlefmt::skip]
+static TEXTS: [(&str, &[u8], &[u8]); 19] = [
+    ("default", b"VADDPS x0 x1 x2 0", b"c5f058c2\n"),
+    ("default", b" VMOVAPS  y0 mq5/-/0 32", b"c5fc284500\n"),
+    ("default", b"\tVPEXTRB mq0/q1*4/305419896 x0 u7 1 \r", b"c4e3791484887856341207\n"),
+    ("default", b"VMOVAPS y0 mq5/-/00 32", b"error BadText\n"),
+    ("default", b"VFOO 0", b"error BadText\n"),
+    ("default", b"\n", b"error BadText\n"),
+    ("default", b"c5f058c2", b"error BadText\n"),
+    ("default", b"VADDPS x0 0", b"error NoSpelling\n"),
+    ("default", b"VMOVAPS y0 mq0/-/0 16", b"error NoSpelling\n"),
+    ("default", b"EVEX.VADDPS z0 z1 z2 0", b"error NoSpelling\n"),
+    ("default", b"TZCNT d0 d1 0", b"error NoSpelling\n"),
+    ("minimal", b"VADDPS x0 x1 x2 0", b"error InvalidOpcode\n"),
+    ("minimal", b"VADDPS x0 0", b"error NoSpelling\n"),
+    ("minimal", b"VADDPS x0 00", b"error BadText\n"),
+    ("nehalem", b"VZEROUPPER 0", b"error InvalidOpcode\n"),
+    ("sandybridge", b"VZEROUPPER 0", b"c5f877\n"),
+    ("sandybridge", b"VCVTPH2PS x0 x1 0", b"error InvalidOpcode\n"),
+    ("ivybridge", b"VCVTPH2PS x0 x1 0", b"c4e27913c1\n"),
+    ("haswell", b"VFMADD213SD x0 x1 x2 0", b"c4e2f1a9c2\n"),
+];
+
+/// A line, and what `least` answers: the bits that its instructions need, each with the first that does, and the profiles
+/// that have them all; or where it stops.
+#[rattlefmt::skip]
+static RUNS: [(&[u8], &[u8]); 8] = [
+    (b"C5 FA 10 07 C5 FA 58 06 C4 E3 7B F0 C1 05",
+        b"need avx 0 VMOVSS\nneed bmi2 8 RORX\n\
+        profiles excavator zen zen2 zen3 zen4 zen5 haswell haswell_ex broadwell skylake kabylake\n"),
+    (b"C4 E2 79 DC C1 C4 E2 79 13 C1",
+        b"need aesni 0 VAESENC\nneed avx 0 VAESENC\nneed f16c 5 VCVTPH2PS\n\
+        profiles bulldozer piledriver steamroller excavator zen zen2 zen3 zen4 zen5 \
+        ivybridge haswell haswell_ex broadwell skylake kabylake\n"),
+    (b"C4 E2 70 F2 C2",
+        b"need bmi1 0 ANDN\n\
+        profiles bulldozer piledriver steamroller excavator zen zen2 zen3 zen4 zen5 \
+        haswell haswell_ex broadwell skylake kabylake\n"),
+    (b"C5 F8 77 33", b"stopped 3 Outside\n"),
+    (b"C4 E2 70 F2 C2 C5 F8", b"stopped 5 ExhaustedInput\n"),
+    (b"C5 F1 71 CA 04", b"stopped 0 InvalidOpcode\n"),
+    (b"\n",
+        b"profiles k8 k10 bulldozer piledriver steamroller excavator zen zen2 zen3 zen4 zen5 \
+        netburst core penryn nehalem westmere sandybridge ivybridge haswell haswell_ex broadwell skylake kabylake\n"),
+    (b"c5f", b"error BadHex\n"),
+];
+
+// Runs a command under a profile over a line, and wants this text.
+fn check(rt: &impl Abort, alloc: Global, verb: &str, profile: &str, line: &[u8], text: &[u8]) {
+    let mut words = Words::new();
+    words.push(verb);
+    if profile != "" {
+        words.push(profile);
+    }
+    let mut source = MemSource::new(line, 4096, &[]);
+    let mut room = [0u8; 256];
+    let mut sink = MemSink::new(&mut room, &[]);
+    let status = run(alloc, &words, &mut source, &mut sink);
+    assert_eq!(rt; status.code(), 0);
+    assert_eq!(rt; sink.written(), text);
+}
+
 #[test]
 fn lines_have_their_answers(rt: HostRuntime) {
     for (profile, line, text) in LINES.iter() {
-        let mut words = Words::new();
-        words.push("recode");
-        words.push(profile);
-        let mut source = MemSource::new(line, 4096, &[]);
-        let mut room = [0u8; 100];
-        let mut sink = MemSink::new(&mut room, &[]);
-        let status = run(rt.alloc(), &words, &mut source, &mut sink);
-        assert_eq!(rt; status.code(), 0);
-        assert_eq!(rt; sink.written(), *text);
+        check(&rt, rt.alloc(), "recode", profile, line, text);
+    }
+}
+
+#[test]
+fn texts_are_assembled(rt: HostRuntime) {
+    for (profile, line, text) in TEXTS.iter() {
+        check(&rt, rt.alloc(), "asm", profile, line, text);
+    }
+    assembled_lines();
+    result_line_assembles(&InstDecoder::default(), b"\xc5\xf8\x77");
+}
+
+#[test]
+fn runs_need_the_bits_of_their_instructions(rt: HostRuntime) {
+    for (line, text) in RUNS.iter() {
+        check(&rt, rt.alloc(), "least", "", line, text);
     }
 }

@@ -4,15 +4,17 @@
 ghost use Rattle.std.specs.Prelude.{◌≡◌, ◌+◌, ◌<◌, ◌≤◌, ◌↔◌, ◌⊎◌, ◌∷◌, ◌++◌, true, length, take, [], Some, IfSome, IsSome, IsSomeAnd, IsNone, IsTrue, IsFalse, IsUtf8};
 ghost use Rattle.std.specs.Bool.{OnTrue, OnFalse};
 ghost use Rattle.std.specs.Io.KnownBytes.{Appends};
-ghost use Rattle.vex_tool.specs.Command.{command};
+ghost use Rattle.vex_tool.specs.Command.{command, count_made};
 ghost use Rattle.vex_tool.specs.Ends.{RoseOrIsLast, RoseByMoreThan, IsQuiet, AppendsFront, WhereTaken};
+ghost use Rattle.vex_tool.specs.Generator.{made};
 ghost use Rattle.vex_tool.specs.Lines.{whole};
 ghost use Rattle.vex_tool.specs.Report.{output, takes_memory, LackedMemory};
 ghost use Rattle.vex_tool.specs.Run.{input_limit};
 
 use command::Command;
-use ends::{Sink, Source};
+use ends::{Failed, Sink, Source};
 use input::answer_input;
+use make_line::write_made;
 use status::Status;
 use std::alloc::Global;
 use std::env::{Env, FillError};
@@ -20,17 +22,23 @@ use std::process::ExitCode;
 use std_ends::{StdSink, StdSource};
 use words::{MAX_WORD_LEN, Words};
 
+mod asm_line;
 mod command;
 #[cfg(test)]
 mod edge_tests;
 mod ends;
+mod generator;
 mod halt;
 mod input;
 mod laws;
+mod least_lines;
 mod line_buffer;
 #[cfg(test)]
 mod line_tests;
 mod line_text;
+mod make_line;
+#[cfg(test)]
+mod make_tests;
 // For callers of `run` over memory; here the tests alone.
 mod memory_ends;
 mod note_lines;
@@ -46,8 +54,9 @@ mod words;
 /// Runs the command that the words ask for, over all that the source has left.
 ///
 /// For each line of the input `recode P` writes one line, `sweep P` one for each instruction and one for the end, and
-/// `notes P` one for each note and then that of `recode P`. The status is `Usage` where the words are no command or one was refused. Else it is that of the first of these events: a
-/// read failed, a write failed, there was no memory for the sweep of a line, the source gave a byte after 2^26 bytes, or
+/// `notes P` one for each note and then that of `recode P`, and `asm P` one; `least` writes one for each bit of settings that the line's instructions need and one for the profiles. `make N` reads nothing, and writes one line.
+/// The status is `Usage` where the words are no command or one was refused. Else it is that of the first of these events:
+/// a read failed, a write failed, there was no memory for the sweep of a line, the source gave a byte after 2^26 bytes, or
 /// all is written and the input has ended. Only `sweep P` takes memory.
 pub fn run<S: Source, K: Sink>(alloc: Global, words: &Words, source: &mut S, sink: &mut K) -> Status
     // `Usage` comes exactly where the words are no command or one was refused, and changes nothing.
@@ -55,10 +64,18 @@ pub fn run<S: Source, K: Sink>(alloc: Global, words: &Words, source: &mut S, sin
     ensures untouched { result ≡ Status.Usage → (source.new ≡ source.old) × (sink.new ≡ sink.old) }
 
     // After `Done` the whole input is read, and its output is written.
-    ensures done_read { result ≡ Status.Done → IfSome (S.left source.old) (λ _. S.left source.new ≡ Some []) }
+    ensures done_read { result ≡ Status.Done → IfSome (command words.now.0) (λ c. IsNone (count_made c)
+        → IfSome (S.left source.old) (λ _. S.left source.new ≡ Some [])) }
     ensures done_written { result ≡ Status.Done → IfSome (command words.now.0) (λ c. IfSome (S.left source.old) (λ input.
         Appends (K.text sink.old) (K.text sink.new) (output c input))) }
     ensures done_quiet { result ≡ Status.Done → (S.faults source.new ≡ S.faults source.old) × (K.faults sink.new ≡ K.faults sink.old) }
+
+    // `make` reads nothing, needs no source that tells, and ends with `Done` where the sink doesn't fail.
+    ensures made_untouched { IfSome (command words.now.0) (λ c. IsSome (count_made c) → source.new ≡ source.old) }
+    ensures made_written { result ≡ Status.Done → IfSome (command words.now.0) (λ c. IfSome (count_made c) (λ count.
+        Appends (K.text sink.old) (K.text sink.new) (made count))) }
+    ensures made_completes { IsSomeAnd (command words.now.0) (λ c. IsSome (count_made c)) → IsFalse words.now.1
+        → IsQuiet (K.faults sink.old) (K.faults sink.new) → result ≡ Status.Done }
 
     // The causes of the other statuses.
     ensures read_fault { result ≡ Status.ReadFault → RoseOrIsLast (S.faults source.old) (S.faults source.new) }
@@ -100,9 +117,15 @@ pub fn run<S: Source, K: Sink>(alloc: Global, words: &Words, source: &mut S, sin
     if words.over() {
         return Status::Usage;
     }
-    match Command::of(words) {
-        Some(command) => answer_input(alloc, &command, source, sink),
-        None => Status::Usage,
+    let Some(command) = Command::of(words) else {
+        return Status::Usage;
+    };
+    match command.count_made() {
+        Some(count) => match write_made(count, sink) {
+            Ok(()) => Status::Done,
+            Err(Failed) => Status::WriteFault,
+        },
+        None => answer_input(alloc, &command, source, sink),
     }
 }
 

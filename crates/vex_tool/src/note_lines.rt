@@ -32,7 +32,7 @@ fn write_note_lines<K: Sink>(list: &ListSink<FieldDescription>, sink: &mut K) ->
 {
     for i in 0..list.len() {
         if let Some(note) = list.get(i) {
-            sink.write_all(note_text_line(note).as_slice())?;
+            sink.write_all(note_text_line(note).as_str().as_bytes())?;
         }
     }
     Ok(())

@@ -4,11 +4,13 @@ ghost use Rattle.std.specs.Prelude.{◌≡◌, ◌≤◌, ◌/◌, [], length, t
 ghost use Rattle.hex.specs.Hex.{decode_of};
 ghost use Rattle.vex_tool.specs.Ends.{Answers, Writes};
 ghost use Rattle.vex_tool.specs.ErrorLine.{error_line};
-ghost use Rattle.vex_tool.specs.Report.{report, code, code_report, digits, or_bad_hex, is_blank, line_error_name, takes_memory, MayLackMemory};
+ghost use Rattle.vex_tool.specs.Report.{report, code, code_report, taken, digits, or_bad_hex, is_blank, line_error_name, takes_memory, MayLackMemory};
 
+use crate::asm_line::write_asm_line;
 use crate::command::Command;
 use crate::ends::{Failed, Sink};
 use crate::halt::Halt;
+use crate::least_lines::write_least;
 use crate::line_text::error_text;
 use crate::note_lines::write_notes;
 use crate::result_line::write_result_line;
@@ -108,10 +110,10 @@ impl CodeRoom {
 pub fn write_error<K: Sink>(error: LineError, sink: &mut K) -> Result<(), Failed>
     ensures { Writes result (K.text sink.old) (K.text sink.new) (K.faults sink.old) (K.faults sink.new) (error_line (line_error_name error)) }
 {
-    sink.write_all(error_text(error.name()).as_slice())
+    sink.write_all(error_text(error.name()).as_str().as_bytes())
 }
 
-// Writes the report of a line that writes these bytes.
+// Writes the report of a line of which the command takes these bytes.
 fn write_code_report<K: Sink>(
     alloc: Global,
     command: &Command,
@@ -131,6 +133,16 @@ fn write_code_report<K: Sink>(
             write_notes(settings, bytes, sink)?;
             Ok(())
         }
+        Command::Asm(settings) => {
+            write_asm_line(settings, bytes, sink)?;
+            Ok(())
+        }
+        Command::Least => {
+            write_least(bytes, sink)?;
+            Ok(())
+        }
+        // It reads no lines.
+        Command::Make(_) => Ok(()),
     }
 }
 
@@ -148,6 +160,10 @@ pub fn write_report<K: Sink>(
     ensures { Answers (λ written. (written ≡ []) × MayLackMemory command.now line.now) result
         (K.text sink.old) (K.text sink.new) (K.faults sink.old) (K.faults sink.new) (report command.now line.now) }
 {
+    if let Command::Asm(_) = command {
+        // It takes the line itself.
+        return write_code_report(alloc, command, line, sink);
+    }
     match room.decode(line) {
         Ok(n) => write_code_report(alloc, command, &room.bytes[..n], sink),
         Err(error) => {

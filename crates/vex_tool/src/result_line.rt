@@ -12,7 +12,7 @@ use x86_settings::InstDecoder;
 
 // The result line of these bytes under settings.
 fn result_text(settings: &InstDecoder, bytes: &[u8]) -> LineText
-    ensures { result.items ≡ result_line settings.now bytes.now }
+    ensures { result.bytes ≡ result_line settings.now bytes.now }
 {
     // The laws of result lines.
     result_lines();
@@ -30,5 +30,5 @@ pub fn write_result_line<K: Sink>(
 ) -> Result<(), Failed>
     ensures { Writes result (K.text sink.old) (K.text sink.new) (K.faults sink.old) (K.faults sink.new) (result_line settings.now bytes.now) }
 {
-    sink.write_all(result_text(settings, bytes).as_slice())
+    sink.write_all(result_text(settings, bytes).as_str().as_bytes())
 }

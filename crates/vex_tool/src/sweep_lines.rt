@@ -18,7 +18,7 @@ fn write_items<K: Sink>(items: &Items<'_>, sink: &mut K) -> Result<(), Failed>
 {
     let list = items.as_slice();
     for item in list {
-        sink.write_all(item_text(item).as_slice())?;
+        sink.write_all(item_text(item).as_str().as_bytes())?;
     }
     Ok(())
 }
@@ -39,6 +39,6 @@ pub fn write_sweep<K: Sink>(
         Err(NoMemory) => return Err(Halt::NoMemory),
     };
     write_items(&swept.items, sink)?;
-    sink.write_all(end_text(&swept.end).as_slice())?;
+    sink.write_all(end_text(&swept.end).as_str().as_bytes())?;
     Ok(())
 }

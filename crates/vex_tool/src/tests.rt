@@ -85,51 +85,63 @@ fn lines_do_not_depend_on_the_pieces(rt: HostRuntime) -> Result<(), Fail> {
     Ok(())
 }
 
-#[test]
-fn a_failed_read_leaves_the_answers_of_the_whole_lines(rt: HostRuntime) -> Result<(), Fail> {
-    let input = five_lines(rt.alloc())?;
-    // 129 reads give bytes, and one more finds the end.
-    for call in 0..130 {
-        let read = (call * 64).min(input.len());
+// Fails one read after another of the five lines in pieces of this size: the answers of the whole lines before it are
+// written.
+fn fail_reads(rt: &impl Abort, alloc: Global, step: usize, calls: usize) -> Result<(), AllocError>
+    requires some { 1 ≤ step }
+    requires most { step ≤ 4096 }
+    requires few { calls ≤ 200 }
+{
+    let input = five_lines(alloc)?;
+    for call in 0..calls {
+        let read = (call * step).min(input.len());
         let lines = input.as_slice()[..read]
             .iter()
             .filter(|&&b| b == b'\n')
             .count();
-        let text = answers(rt.alloc(), lines)?;
+        let text = answers(alloc, lines)?;
         let failing = [call as u64];
-        let mut source = MemSource::new(input.as_slice(), 64, &failing);
+        let mut source = MemSource::new(input.as_slice(), step, &failing);
         let mut room = [0u8; 120];
         let mut sink = MemSink::new(&mut room, &[]);
-        check(
-            &rt,
-            rt.alloc(),
-            &mut source,
-            &mut sink,
-            (Status::ReadFault, text.as_slice()),
-            call,
-        );
+        let want = (Status::ReadFault, text.as_slice());
+        check(rt, alloc, &mut source, &mut sink, want, call);
+    }
+    Ok(())
+}
+
+#[test]
+fn a_failed_read_leaves_the_answers_of_the_whole_lines(rt: HostRuntime) -> Result<(), Fail> {
+    // 129 reads of 64 bytes, 9 of 1,000 and 3 of 4,096 give bytes, and one more finds the end.
+    fail_reads(&rt, rt.alloc(), 64, 130)?;
+    fail_reads(&rt, rt.alloc(), 1000, 10)?;
+    fail_reads(&rt, rt.alloc(), 4096, 4)?;
+    Ok(())
+}
+
+// Fails one write after another of the answers to the five lines in pieces of this size: the answers before it are
+// written.
+fn fail_writes(rt: &impl Abort, alloc: Global, step: usize) -> Result<(), AllocError>
+    requires { 1 ≤ step }
+{
+    let input = five_lines(alloc)?;
+    for call in 0..5 {
+        let text = answers(alloc, call)?;
+        let failing = [call as u64];
+        let mut source = MemSource::new(input.as_slice(), step, &[]);
+        let mut room = [0u8; 120];
+        let mut sink = MemSink::new(&mut room, &failing);
+        let want = (Status::WriteFault, text.as_slice());
+        check(rt, alloc, &mut source, &mut sink, want, call);
     }
     Ok(())
 }
 
 #[test]
 fn a_failed_write_leaves_a_front(rt: HostRuntime) -> Result<(), Fail> {
+    fail_writes(&rt, rt.alloc(), 1000)?;
+    fail_writes(&rt, rt.alloc(), 4096)?;
     let input = five_lines(rt.alloc())?;
-    for call in 0..5 {
-        let text = answers(rt.alloc(), call)?;
-        let failing = [call as u64];
-        let mut source = MemSource::new(input.as_slice(), 4096, &[]);
-        let mut room = [0u8; 120];
-        let mut sink = MemSink::new(&mut room, &failing);
-        check(
-            &rt,
-            rt.alloc(),
-            &mut source,
-            &mut sink,
-            (Status::WriteFault, text.as_slice()),
-            call,
-        );
-    }
     let mut source = MemSource::new(input.as_slice(), 4096, &[]);
     let mut room = [0u8; 40];
     let mut sink = MemSink::new(&mut room, &[]);
@@ -198,7 +210,7 @@ fn the_limit_is_two_to_the_26(rt: HostRuntime) {
 #[test]
 fn words_that_are_no_command(rt: HostRuntime) {
     let long = "xxxxxxxxxxxxxxxxxxxxxxxxxxxxxxxxxxxxxxxxxxxxxxxxxxxxxxxxxxxxxxxxx";
-    let lists: [&[&str]; 12] = [
+    let lists: [&[&str]; 15] = [
         &[],
         &["recode"],
         &["recode", "zen6"],
@@ -206,6 +218,9 @@ fn words_that_are_no_command(rt: HostRuntime) {
         &["sweep", "zen6"],
         &["notes"],
         &["notes", "zen6"],
+        &["make"],
+        &["make", "default"],
+        &["make", "1", "1"],
         &["Recode", "default"],
         &["recode", "Default"],
         &["recode", "default", ""],

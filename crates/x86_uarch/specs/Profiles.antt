@@ -1,4 +1,4 @@
-use Rattle.std.specs.Prelude.{ℕ, Bool, List, [], ◌∷◌, Option, codes}
+use Rattle.std.specs.Prelude.{ℕ, Bool, List, [], ◌∷◌, Option, codes, drop, map}
 use Rattle.std.specs.Str.{bytes_eq}
 use Rattle.std.specs.Map.{lookup}
 use Rattle.x86_settings.specs.Bits.{no_bits, all_bits}
@@ -39,3 +39,7 @@ profiles =
 -- the settings of the profile with that name, or none
 unfoldable pub profile_of : List ℕ → Option (List Bool)
 profile_of name = lookup (bytes_eq name) profiles
+
+-- the names of the microarchitectures, AMD's before Intel's: all but the first two
+unfoldable pub microarchitectures : List (List ℕ)
+microarchitectures = map (λ profile. profile.0) (drop 2 profiles)

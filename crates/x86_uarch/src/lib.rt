@@ -1,11 +1,11 @@
 //! The settings of microarchitectures, by maker and by name.
 #![tactic(auto)]
 
-ghost use Rattle.std.specs.Prelude.{◌≡◌};
+ghost use Rattle.std.specs.Prelude.{◌≡◌, map};
 ghost use Rattle.x86_settings.specs.Sets.{exactly};
 ghost use Rattle.x86_uarch.specs.Amd.{bulldozer, steamroller};
 ghost use Rattle.x86_uarch.specs.Intel.{core, penryn, skylake, kabylake};
-ghost use Rattle.x86_uarch.specs.Profiles.{profile_of};
+ghost use Rattle.x86_uarch.specs.Profiles.{microarchitectures, profile_of};
 
 use x86_settings::InstDecoder;
 
@@ -46,6 +46,38 @@ pub fn profile(name: &str) -> Option<InstDecoder>
         "kabylake" => Some(intel::kabylake()),
         _ => None,
     }
+}
+
+/// The names of the microarchitectures, AMD's before Intel's: each is a profile's.
+#[tactic(auto, unfolding(crate::specs::Profiles::profiles, crate::specs::Profiles::microarchitectures))]
+pub fn names() -> &'static [&'static str]
+    ensures { map (λ name. name.now) result.now ≡ microarchitectures }
+{
+    &[
+        "k8",
+        "k10",
+        "bulldozer",
+        "piledriver",
+        "steamroller",
+        "excavator",
+        "zen",
+        "zen2",
+        "zen3",
+        "zen4",
+        "zen5",
+        "netburst",
+        "core",
+        "penryn",
+        "nehalem",
+        "westmere",
+        "sandybridge",
+        "ivybridge",
+        "haswell",
+        "haswell_ex",
+        "broadwell",
+        "skylake",
+        "kabylake",
+    ]
 }
 
 /// Steamroller has the settings of Bulldozer, Penryn those of Core, and Kaby Lake those of Skylake.

@@ -15,7 +15,7 @@ returns-in_err-write_all g c =
     let list = c.as_slice-list.result.now in
     let i = c.loop-item.item-index in
     let wrote = c.loop-item.invariant in
-    let front = rw (c.as_slice.ensures.value, c.item_text.ensures) at c.in_err-write_all.ensures.front in
+    let front = rw (c.as_bytes.ensures.value, c.as_str.ensures.value, c.item_text.ensures) at c.in_err-write_all.ensures.front in
     rw (← c.as_slice-list.ensures, ← seen_lines list)
     (Writes-fault _ failed.0 _ _ _ _ _ failed.1
     (Wrote-fault seen_line list _ (drop (i + 1) list) _ _ _ _ wrote (split-item list i _ c.loop-item-test.true c.item-item.is) front)
@@ -24,7 +24,7 @@ returns-in_err-write_all g c =
 pub loop-item-preserved : goal.loop-item-preserved
 loop-item-preserved g c =
     let more = c.in_ok-write_all.ensures in
-    let written = rw (c.as_slice.ensures.value, c.item_text.ensures) at more.appends in
+    let written = rw (c.as_bytes.ensures.value, c.as_str.ensures.value, c.item_text.ensures) at more.appends in
     rw (take-item c.as_slice-list.result.now c.loop-item.item-index _ c.loop-item-test.true c.item-item.is)
     (Wrote-step seen_line _ _ _ _ _ c.loop-item.invariant written more.quiet)
 

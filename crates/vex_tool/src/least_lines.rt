@@ -1,0 +1,142 @@
+//! The settings that a run of instructions needs, and the profiles that have them.
+
+ghost use Rattle.std.specs.Prelude.{◌≡◌, ◌≤◌, ◌+◌, ◌++◌, [], codes, flat_map, if◌then◌else◌, length, nat_eq};
+ghost use Rattle.arrayvec.specs.ArrayString.{array_string_len};
+ghost use Rattle.vex_tool.specs.Ends.{Writes};
+ghost use Rattle.vex_tool.specs.LeastLines.{accepted_by, bit_name, cause_name, fault_line, least_lines, need_line, profile_word, profiles_line};
+ghost use Rattle.x86_uarch.specs.Profiles.{profile_of};
+
+use crate::ends::{Failed, Sink};
+use crate::line_text::LineText;
+use arrayvec::ArrayString;
+use vex_asm::{append_name, append_number};
+use vex_check::{First, Needs, RunCause, RunFault, accepts, check};
+use x86_uarch::{names, profile};
+
+/// Room for the line of all profiles: 23 names of at most 11 bytes, a space before each, and what stands round them.
+const MAX_PROFILES: usize = 320;
+
+/// The name of a bit, of the five that instructions in VEX form need.
+fn bit_name(bit: u8) -> &'static str
+    ensures is { result.now ≡ bit_name bit }
+    ensures short { length result.now ≤ 5 }
+{
+    match bit {
+        5 => "aesni",
+        7 => "avx",
+        25 => "bmi1",
+        26 => "bmi2",
+        _ => "f16c",
+    }
+}
+
+/// The line of the first instruction that needs a bit: the bit's name, the place and the opcode.
+fn need_text(first: &First) -> LineText
+    ensures { result.bytes ≡ need_line first.now }
+{
+    let mut text = LineText::new();
+    text.push_str("need ");
+    text.push_str(bit_name(first.bit));
+    text.push_str(" ");
+    append_number(&mut text, first.place);
+    text.push_str(" ");
+    append_name(&mut text, first.opcode);
+    text.push_str("\n");
+    text
+}
+
+/// The name of the cause of a fault.
+fn cause_name(cause: RunCause) -> &'static str
+    ensures is { result.now ≡ cause_name cause }
+    ensures short { length result.now ≤ 14 }
+{
+    match cause {
+        RunCause::Blocked(error) => error.name(),
+        RunCause::Marked => "Marked",
+    }
+}
+
+/// The line of a fault: its place and its cause.
+fn fault_text(fault: &RunFault) -> LineText
+    ensures { result.bytes ≡ fault_line fault.now }
+{
+    let mut text = LineText::new();
+    text.push_str("stopped ");
+    append_number(&mut text, fault.place);
+    text.push_str(" ");
+    text.push_str(cause_name(fault.cause));
+    text.push_str("\n");
+    text
+}
+
+/// Whether the profile of that name has every bit that a run needs.
+fn is_accepting(name: &str, needs: &Needs) -> bool
+    ensures { result ≡ accepted_by needs.now.least (profile_of name.now) }
+{
+    match profile(name) {
+        Some(settings) => accepts(&settings, needs),
+        None => false,
+    }
+}
+
+/// Appends the name of a profile behind a space, where the profile has every bit that a run needs.
+fn push_accepting(text: &mut ArrayString<MAX_PROFILES>, name: &str, needs: &Needs)
+    requires { array_string_len text.old + 1 + length name.now ≤ MAX_PROFILES }
+    ensures written { text.new.bytes ≡ text.old.bytes ++ profile_word needs.now.least name.now }
+    ensures short { array_string_len text.new ≤ array_string_len text.old + 1 + length name.now }
+{
+    if is_accepting(name, needs) {
+        text.push_str(" ");
+        text.push_str(name);
+    }
+}
+
+/// Appends a dash, where nothing stands behind the first word of the line of profiles.
+fn push_dash(text: &mut ArrayString<MAX_PROFILES>)
+    requires { array_string_len text.old + 2 ≤ MAX_PROFILES }
+    ensures written { text.new.bytes ≡ text.old.bytes ++ (if nat_eq (length text.old.bytes) 8 then codes " -" else []) }
+    ensures short { array_string_len text.new ≤ array_string_len text.old + 2 }
+{
+    if text.len() == 8 {
+        text.push_str(" -");
+    }
+}
+
+/// Writes the line of the profiles that have every bit that a run needs, in one write.
+fn write_profiles<K: Sink>(needs: &Needs, sink: &mut K) -> Result<(), Failed>
+    ensures { Writes result (K.text sink.old) (K.text sink.new) (K.faults sink.old) (K.faults sink.new) (profiles_line needs.now.least) }
+{
+    let mut text = ArrayString::<MAX_PROFILES>::new();
+    text.push_str("profiles");
+    let list = names();
+    for name in list {
+        push_accepting(&mut text, name, needs);
+    }
+    push_dash(&mut text);
+    text.push_str("\n");
+    sink.write_all(text.as_str().as_bytes())
+}
+
+/// Writes a line for each bit that is needed, in one write each.
+fn write_firsts<K: Sink>(firsts: &[First], sink: &mut K) -> Result<(), Failed>
+    ensures { Writes result (K.text sink.old) (K.text sink.new) (K.faults sink.old) (K.faults sink.new) (flat_map need_line firsts.now) }
+{
+    for first in firsts {
+        sink.write_all(need_text(first).as_str().as_bytes())?;
+    }
+    Ok(())
+}
+
+/// Writes what the run of instructions that these bytes are needs, a line for each bit and one for the profiles that have
+/// them all, or the line of its fault, in one write each. `Failed` where a write of the sink fails.
+pub fn write_least<K: Sink>(bytes: &[u8], sink: &mut K) -> Result<(), Failed>
+    ensures { Writes result (K.text sink.old) (K.text sink.new) (K.faults sink.old) (K.faults sink.new) (least_lines bytes.now) }
+{
+    match check(bytes) {
+        Ok(needs) => {
+            write_firsts(needs.firsts.as_slice(), sink)?;
+            write_profiles(&needs, sink)
+        }
+        Err(fault) => sink.write_all(fault_text(&fault).as_str().as_bytes()),
+    }
+}
