@@ -1,4 +1,4 @@
--- What is read of a text, part by part: private functions and proofs cite this, and no public contract.
+-- What is read of a text, part by part: private functions, proofs and `meaning_of` cite this, and no public contract.
 use Rattle.std.specs.Prelude.{ℕ, zero, suc, ℤ, pos, negsuc, neg_ℤ, ◌+◌, ◌-◌, ◌*◌, Bool, false, cond, not, List, [], ◌∷◌, ◌++◌, Option, Some, None, codes, length, nat_lt, nat_le, bytes_eq, ◌==◌, ◌&&◌, if◌then◌else◌, option_map}
 use Rattle.std.specs.Char.{is_ascii_digit}
 use Rattle.std.specs.Int.RustNames.{int_le}
