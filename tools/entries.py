@@ -2,10 +2,11 @@
 """Writes the indexes of the table of entries in crates/vex_rows from src/table.rt.
 
 These are the cells by map, implied prefix, opcode byte, W and L (src/cells.rt and specs/Cells.antt), and the places of
-each opcode's entries by the opcode's number (src/places.rt), which tools/opcodes.txt gives. The check of vex_rows
-proves what is written here, and compares it with the table. Run it at the top of the repository after each change of
-the table; with --check it writes nothing and fails where a file isn't as it would write it. It names the entries that
-share a key or stand out of order, and the opcodes that have more than four entries, which that check refuses too.
+each opcode's entries and of its sizes by the opcode's number (src/places.rt), which tools/opcodes.txt gives. The check
+of vex_rows proves what is written here, and compares it with the table and with src/sizes.rt. Run it at the top of the
+repository after each change of those two; with --check it writes nothing and fails where a file isn't as it would
+write it. It names the entries that share a key or stand out of order, the opcodes that have more than four entries,
+and those whose sizes stand at two places, which that check refuses too.
 """
 import re
 import sys
@@ -21,6 +22,8 @@ PREFIXES = ("Plain", "Prefix66", "PrefixF3", "PrefixF2")
 RULES = ("Any", "Zero", "One")
 NONE = 65535
 ENTRY = re.compile(r"entry!\((\w+) (\w+) 0x([0-9A-F]{2}) (\w+) (\w+) (\w+) (\w+)\)")
+LIST = re.compile(r"= &\[(.*?)\];", re.DOTALL)
+SIZE = re.compile(r"\(Opcode::(\w+), ")
 # The opcodes that rows of a form give where the entry announces none.
 OPCODES = {
     "VPS_71": ("VPSRLW", "VPSRAW", "VPSLLW"),
@@ -78,13 +81,19 @@ def cells(table):
     return lists
 
 
-def places(table):
-    """The places of each opcode's entries one after another, and where those of each opcode begin."""
+def numbers_of_opcodes():
+    """The number of each opcode, and how many there are."""
     parts, count = read(HERE / "opcodes.txt")
     numbers = {"Invalid": 0, "BSF": 1}
     for part in parts:
         for i, name in enumerate(part.names()):
             numbers[name] = part.first + i
+    return numbers, count
+
+
+def places(table):
+    """The places of each opcode's entries one after another, and where those of each opcode begin."""
+    numbers, count = numbers_of_opcodes()
     lists = [[] for _ in range(count)]
     for place, (*_, form, opcode) in enumerate(table):
         for name in OPCODES.get(form, (opcode,)):
@@ -97,6 +106,19 @@ def places(table):
 
 def name_of(map_name, prefix):
     return f"CELLS_{map_name.removeprefix('Map')}_{prefix.removeprefix('Prefix')}".upper()
+
+
+def size_places():
+    """Where the size of each opcode stands in the lists that have it; it names the opcodes that stand at two places."""
+    numbers, count = numbers_of_opcodes()
+    found = [NONE] * count
+    text = (CRATE / "src" / "sizes.rt").read_text()
+    for sizes in LIST.findall(text):
+        for place, name in enumerate(SIZE.findall(sizes)):
+            if found[numbers[name]] not in (NONE, place):
+                print(f"two places: the sizes of {name}", file=sys.stderr)
+            found[numbers[name]] = place
+    return found
 
 
 def static(doc, name, numbers, public):
@@ -159,15 +181,18 @@ def cells_specs(lists):
     return lines
 
 
-def places_code(places, starts):
+def places_code(places, starts, size_places):
     lines = [
-        f"//! The places in table order of each opcode's entries, {NOTE}.",
+        f"//! The places in table order of each opcode's entries, and that of its sizes, {NOTE}.",
         "",
     ]
     doc = "The places of the entries of opcode 0, then those of opcode 1, and so on."
     lines += static(doc, "PLACES", places, "pub ")
     doc = "Where in `PLACES` those of each opcode begin, by the opcode's number, and at last where they end."
-    return (lines + static(doc, "STARTS", starts, "pub "))[:-1]
+    lines += static(doc, "STARTS", starts, "pub ")
+    doc = "Where the size of each opcode stands in each list of sizes that has it, by the opcode's number, and 65535"
+    doc += " for none."
+    return (lines + static(doc, "SIZE_PLACES", size_places, "pub "))[:-1]
 
 
 def main():
@@ -176,7 +201,7 @@ def main():
     files = {
         CRATE / "src" / "cells.rt": cells_code(lists),
         CRATE / "specs" / "Cells.antt": cells_specs(lists),
-        CRATE / "src" / "places.rt": places_code(*places(table)),
+        CRATE / "src" / "places.rt": places_code(*places(table), size_places()),
     }
     status = 0
     for fault in faults(table):

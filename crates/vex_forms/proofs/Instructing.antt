@@ -1,5 +1,5 @@
--- The row that was chosen has a layout, and the instruction that is made of it is the one that the row gives.
-use Rattle.std.specs.Prelude.{◌≡◌, refl, Bool, true, false, ◌&&◌, [], Ok, Option, Some, None, IsSome, if◌then◌else◌}
+-- The instruction that is made of a choice is the one that the row gives that was chosen.
+use Rattle.std.specs.Prelude.{◌≡◌, refl, Bool, true, false, [], Ok, if◌then◌else◌}
 use Rattle.std.proofs.Common.{ap, ap₂, ◌∙◌}
 use Rattle.x86_operand.specs.Meaning.{Decoded}
 use Rattle.x86_address.specs.Bytes.{bit}
@@ -10,23 +10,16 @@ use Rattle.vex_rows.specs.declared.entry.Entry.{Entry}
 use Rattle.vex_rows.specs.declared.key.Prefix.{Prefix}
 use Rattle.vex_rows.specs.FormRows.{gathers}
 use Rattle.vex_rows.specs.Steps.{steps}
-use Rattle.vex_rows.specs.Row.{Row, Among, kinds_of, exists, is_memory}
-use Rattle.vex_rows.specs.Row.Lists.{parts-both}
+use Rattle.vex_rows.specs.Row.{Row, Among, kinds_of, is_memory}
 use Rattle.vex_forms.specs.declared.operand_fields.OperandFields.{OperandFields}
-use Rattle.vex_forms.specs.declared.row_layout.RowLayout.{RowLayout}
 use Rattle.vex_forms.specs.Fields.{fields_of}
 use Rattle.vex_forms.specs.FormWalk.{Operands, walk_form, row_of}
-use Rattle.vex_forms.specs.FormWalk.Laws.{Passed, walk_form-passed, chosen_exists}
+use Rattle.vex_forms.specs.FormWalk.Laws.{Passed, walk_form-passed}
 use Rattle.vex_forms.specs.Gives.{gives}
-use Rattle.vex_forms.specs.Layout.{IsLayout, group_for, may_be, row_for}
+use Rattle.vex_forms.specs.Layout.{group_for, may_be, row_for}
 use Rattle.vex_forms.specs.Layout.Laws.{kind-again, may_be-again, is_memory-plain}
 use Rattle.vex_forms.specs.Operands.{target_seen}
-use Rattle.vex_forms.specs.Reads.{HasPrefix, IsOperands, IsInstruction, kind_of_e}
-
--- what is there isn't none
-pub none_there : {A : Type 0} (o : Option A) → IsSome o → o ≡ None → ⊥
-none_there None there none = cc
-none_there (Some value) there none = cc
+use Rattle.vex_forms.specs.Reads.{IsOperands, IsInstruction, kind_of_e}
 
 bit_is : (b : Bool) → (if b then 1 else 0) ≡ bit b
 bit_is true = refl
@@ -55,28 +48,19 @@ module _ (entry : Entry) (prefix : Prefix) (fields : OperandFields) {old new : R
   row_is : row_for entry prefix.w prefix.l memory fields.reg ≡ row_of entry (fields_of prefix) f.answers.0
   row_is = ap₂ (λ m reg. row_for entry prefix.w prefix.l m reg) in_memory f.answers.1.reg ∙ row_again entry prefix f.answers.0 (passed_of f).kind
 
-  there : HasPrefix entry (fields_of prefix) → (may_be entry memory && exists (row_for entry prefix.w prefix.l memory fields.reg)) ≡ true
-  there has =
-      parts-both _ _ (ap (may_be entry) in_memory ∙ may_again entry f.answers.0 (passed_of f).kind) (ap exists row_is ∙ chosen_exists entry (fields_of prefix) f.answers.0 (passed_of f) has.w has.l)
-
-  meaning_is : (layout : RowLayout) (instruction : Decoded) → IsLayout (row_for entry prefix.w prefix.l memory fields.reg) layout
-      → ((row : Row) → IsLayout row layout → instruction.meaning ≡ gives row (bit fields.r) fields.vvvv fields.reg (target_seen fields.e) fields.imm)
+  meaning_is : (instruction : Decoded) → instruction.meaning ≡ gives (row_for entry prefix.w prefix.l memory fields.reg) (bit fields.r) fields.vvvv fields.reg (target_seen fields.e) fields.imm
       → instruction.len ≡ 0 → IsInstruction entry (fields_of prefix) f.answers.0 instruction
-  meaning_is layout instruction is_layout meaning length =
+  meaning_is instruction meaning length =
       let is = f.answers.1 in
       record {
-        meaning = meaning _ is_layout ∙ (λ i. gives (row_is i) (bit (is.r i)) (is.vvvv i) (is.reg i) (is.e.target i) (is.imm i));
+        meaning = meaning ∙ (λ i. gives (row_is i) (bit (is.r i)) (is.vvvv i) (is.reg i) (is.e.target i) (is.imm i));
         length = length;
       }
 
-pub layout_is_there : (entry : Entry) (prefix : Prefix) (fields : OperandFields) {old new : ReaderState} {memory : Bool} → HasPrefix entry (fields_of prefix)
-    → Follows (walk_form entry (fields_of prefix)) (IsOperands prefix) old new (Ok fields) → memory ≡ is_memory (kind_of_e fields.e)
-    → (may_be entry memory && exists (row_for entry prefix.w prefix.l memory fields.reg)) ≡ true
-layout_is_there entry prefix fields has f memory_is = there entry prefix fields f memory_is has
-
-pub is_instruction : (entry : Entry) (prefix : Prefix) (fields : OperandFields) {old new : ReaderState} {memory : Bool} {layout : RowLayout} {instruction : Decoded}
+pub is_instruction : (entry : Entry) (prefix : Prefix) (fields : OperandFields) {old new : ReaderState} {memory : Bool} {row : Row} {instruction : Decoded}
     → (f : Follows (walk_form entry (fields_of prefix)) (IsOperands prefix) old new (Ok fields)) → memory ≡ is_memory (kind_of_e fields.e)
-    → IsLayout (row_for entry prefix.w prefix.l memory fields.reg) layout
-    → ((row : Row) → IsLayout row layout → instruction.meaning ≡ gives row (bit fields.r) fields.vvvv fields.reg (target_seen fields.e) fields.imm)
+    → row ≡ row_for entry prefix.w prefix.l memory fields.reg
+    → instruction.meaning ≡ gives row (bit fields.r) fields.vvvv fields.reg (target_seen fields.e) fields.imm
     → instruction.len ≡ 0 → IsInstruction entry (fields_of prefix) f.answers.0 instruction
-is_instruction entry prefix fields f memory_is is_layout meaning length = meaning_is entry prefix fields f memory_is _ _ is_layout meaning length
+is_instruction entry prefix fields f memory_is chosen_is meaning length =
+    meaning_is entry prefix fields f memory_is _ (meaning ∙ ap (λ row. gives row (bit fields.r) fields.vvvv fields.reg (target_seen fields.e) fields.imm) chosen_is) length

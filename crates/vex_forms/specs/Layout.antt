@@ -1,10 +1,11 @@
 -- The row of an entry that a caller chooses, and what the layout of a row shows.
 pub mod Laws
-use Rattle.std.specs.Prelude.{◌≡◌, ℕ, ◌≤◌, Bool, not, ◌||◌, Option, Some, None, if◌then◌else◌}
+use Rattle.std.specs.Prelude.{◌≡◌, ℕ, ◌≤◌, Bool, not, ◌&&◌, ◌||◌, Option, Some, None, if◌then◌else◌}
 use Rattle.x86_operand.specs.Kind.{Kind, WithoutModRM, InRegister, is_vector, memory_kind}
 use Rattle.vex_rows.specs.declared.entry.Entry.{Entry}
 use Rattle.vex_rows.specs.declared.form.Form.{Form}
 use Rattle.vex_rows.specs.FormRows.{gathers}
+use Rattle.vex_rows.specs.Rules.{allows}
 use Rattle.vex_rows.specs.Steps.{steps}
 use Rattle.vex_rows.specs.Row.{Row, row_at, opcode_of, has_groups, has_imm}
 use Rattle.vex_forms.specs.declared.choice.Choice.{Choice}
@@ -32,6 +33,10 @@ chosen c = row_at c.entry c.w (if c.l then 1 else 0) (kind_for c.entry.form c.me
 -- whether an entry can have its operand E in that place: without ModRM it has none in memory
 abbrev pub may_be : Entry → Bool → Bool
 may_be entry memory = (steps entry.form).modrm || not memory
+
+-- whether an entry's rules allow a W and an L
+abbrev pub rules_allow : Entry → Bool → Bool → Bool
+rules_allow entry w l = allows entry.w w && allows entry.l l
 
 -- a number of bytes that the size of a memory operand can say
 abbrev pub IsSize : ℕ → Type 0

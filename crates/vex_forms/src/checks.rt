@@ -1,6 +1,6 @@
 //! The checks of a form, which stand between the steps that read.
 
-ghost use Rattle.std.specs.Prelude.{◌≡◌, ◌%◌, true};
+ghost use Rattle.std.specs.Prelude.{◌≡◌, ◌%◌, true, [], ◌∷◌};
 ghost use Rattle.x86_address.specs.Follows.{Any, Decides};
 ghost use Rattle.x86_operand.specs.Kind.{is_vector};
 ghost use Rattle.vex_rows.specs.Few.{items};
@@ -87,6 +87,24 @@ fn refusal(check: Check) -> DecodeError
     }
 }
 
+/// Does a check.
+#[inline(always)]
+fn do_check(
+    check: Check,
+    entry: &Entry,
+    prefix: &Prefix,
+    kind: Kind,
+    reg: u8,
+) -> Result<(), DecodeError>
+    ensures { Decides (check_all entry.now (fields_of prefix.now) (kind_seen kind) reg (check ∷ [])) Any result }
+{
+    if passes(check, entry, prefix, kind, reg) {
+        Ok(())
+    } else {
+        Err(refusal(check))
+    }
+}
+
 /// Does the checks of a slice in order.
 fn check_each(
     checks: &[Check],
@@ -105,15 +123,36 @@ fn check_each(
     Ok(())
 }
 
-/// Does the checks in order. The first that doesn't pass gives the error.
-pub fn do_checks(
-    checks: Few<Check>,
+/// Does several checks in order.
+#[inline(never)]
+fn do_several(
+    checks: &Few<Check>,
     entry: &Entry,
     prefix: &Prefix,
     kind: Kind,
     reg: u8,
 ) -> Result<(), DecodeError>
-    ensures { Decides (check_all entry.now (fields_of prefix.now) (kind_seen kind) reg (items checks)) Any result }
+    ensures { Decides (check_all entry.now (fields_of prefix.now) (kind_seen kind) reg (items checks.now)) Any result }
 {
     check_each(checks.items().as_slice(), entry, prefix, kind, reg)
+}
+
+/// Does the checks in order. The first that doesn't pass gives the error. Most lists have no check or one.
+#[inline(always)]
+pub fn do_checks(
+    checks: &Few<Check>,
+    entry: &Entry,
+    prefix: &Prefix,
+    kind: Kind,
+    reg: u8,
+) -> Result<(), DecodeError>
+    ensures { Decides (check_all entry.now (fields_of prefix.now) (kind_seen kind) reg (items checks.now)) Any result }
+{
+    match checks {
+        Few::Zero => Ok(()),
+        Few::One(check) => do_check(*check, entry, prefix, kind, reg),
+        Few::Two(_, _) | Few::Three(_, _, _) | Few::Four(_, _, _, _) => {
+            do_several(checks, entry, prefix, kind, reg)
+        }
+    }
 }

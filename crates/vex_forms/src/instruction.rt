@@ -1,16 +1,45 @@
 //! The instruction that a row and the numbers of its operands mean.
 
-ghost use Rattle.std.specs.Prelude.{◌≡◌};
+ghost use Rattle.std.specs.Prelude.{◌≡◌, ◌≤◌, false, length, map, true};
 ghost use Rattle.x86_address.specs.Bytes.{bit};
 ghost use Rattle.vex_rows.specs.Row.{Row};
-ghost use Rattle.vex_forms.specs.Gives.{gives};
-ghost use Rattle.vex_forms.specs.Layout.{IsLayout};
-ghost use Rattle.vex_forms.specs.Operands.{target_seen};
+ghost use Rattle.vex_forms.specs.Gives.{gives, slot_operand};
+ghost use Rattle.vex_forms.specs.Layout.{IsLayout, chosen};
+ghost use Rattle.vex_forms.specs.Operands.{has_sixteen, slots_fit, target_seen};
 
+use crate::choice::Choice;
 use crate::operand_fields::OperandFields;
 use crate::operands::operands;
 use crate::row_layout::RowLayout;
-use x86_operand::Instruction;
+use crate::slot::Slot;
+use x86_operand::{Instruction, MemoryAccessSize, Opcode, RegisterBank};
+
+/// The instruction of that opcode and memory size, with an operand for each of at most four slots in order. Its length is
+/// 0.
+#[inline(always)]
+fn instruction_by(
+    opcode: Opcode,
+    slots: &[Slot],
+    index_bank: RegisterBank,
+    mem_size: Option<MemoryAccessSize>,
+    fields: &OperandFields,
+) -> Instruction
+    requires { length slots.now ≤ 4 }
+    ensures meaning { slots_fit slots.now ≡ true → has_sixteen index_bank ≡ true → result.meaning
+        ≡ record {
+          evex = false;
+          opcode = opcode;
+          operands = map (slot_operand index_bank (bit fields.now.r) fields.now.vvvv fields.now.reg (target_seen fields.now.e) fields.now.imm) slots.now;
+          size = mem_size;
+        } }
+    ensures length { result.len ≡ 0 }
+{
+    let operands = operands(slots, index_bank, fields);
+    match Instruction::from_parts(false, opcode, &operands[..slots.len()], mem_size) {
+        Some(instruction) => instruction,
+        None => unreachable!(),
+    }
+}
 
 /// The instruction that a row means with these numbers: the row's opcode and memory size, and an operand for each slot
 /// in order (Intel SDM volume 2, sections 2.3.5.2, 2.3.5.6, 2.3.8 and 2.3.9). Its length is 0.
@@ -19,10 +48,29 @@ pub fn instruction_of(layout: &RowLayout, fields: &OperandFields) -> Instruction
         ≡ gives row (bit fields.now.r) fields.now.vvvv fields.now.reg (target_seen fields.now.e) fields.now.imm }
     ensures length { result.len ≡ 0 }
 {
-    let operands = operands(layout.slots.as_slice(), layout.index_bank, fields);
-    let count = layout.slots.len();
-    match Instruction::from_parts(false, layout.opcode, &operands[..count], layout.mem_size) {
-        Some(instruction) => instruction,
-        None => unreachable!(),
+    instruction_by(
+        layout.opcode,
+        layout.slots.as_slice(),
+        layout.index_bank,
+        layout.mem_size,
+        fields,
+    )
+}
+
+impl Choice {
+    /// The instruction that the row means with these numbers, as `instruction_of` makes it of the row's layout.
+    pub fn instruction(&self, fields: &OperandFields) -> Instruction
+        ensures meaning { result.meaning
+            ≡ gives (chosen self.now) (bit fields.now.r) fields.now.vvvv fields.now.reg (target_seen fields.now.e) fields.now.imm }
+        ensures length { result.len ≡ 0 }
+    {
+        let slots = self.slots();
+        instruction_by(
+            self.opcode(),
+            slots.as_slice(),
+            self.index_bank(),
+            self.memory_size(),
+            fields,
+        )
     }
 }

@@ -13,10 +13,9 @@ ghost use Rattle.vex_forms.specs.FormWalk.{place_by, take_imm, walk_alone, walk_
 ghost use Rattle.vex_forms.specs.Reads.{FailsForm, HasPrefix, IsInstruction, IsOperandE, IsOperands, TakesForm, kind_of_e, kind_seen};
 
 use crate::checks::{Kind, do_checks};
-use crate::instruction::instruction_of;
+use crate::choice::Choice;
 use crate::operand_e::OperandE;
 use crate::operand_fields::OperandFields;
-use crate::row_layout::layout;
 use vex_rows::{Entry, FormRow, Prefix, row_of_form};
 use x86_address::laws::reading_is_spelling;
 use x86_address::{read_address, read_imm, read_modrm, read_vector_address};
@@ -85,9 +84,9 @@ fn read_from_modrm<R: Reader>(
     let modrm = read_modrm(words)?;
     let reg = modrm / 8 % 8;
     let kind = Kind::of(entry, modrm);
-    do_checks(form.after_modrm, entry, prefix, kind, reg)?;
+    do_checks(&form.after_modrm, entry, prefix, kind, reg)?;
     let e = read_e(form.address, kind, modrm, prefix, words)?;
-    do_checks(form.after_address, entry, prefix, kind, reg)?;
+    do_checks(&form.after_address, entry, prefix, kind, reg)?;
     let imm = read_imm_if(form.imm, words)?;
     Ok(OperandFields {
         r: prefix.r,
@@ -130,7 +129,7 @@ fn read_operands<R: Reader>(
         (R.state words.old) (R.state words.new) result }
 {
     let form = row_of_form(entry.form);
-    do_checks(form.before_modrm, entry, prefix, Kind::WithoutModRM, 0)?;
+    do_checks(&form.before_modrm, entry, prefix, Kind::WithoutModRM, 0)?;
     if form.modrm {
         read_from_modrm(form, entry, prefix, words)
     } else {
@@ -157,10 +156,9 @@ pub(crate) fn read_instruction<R: Reader>(
         (R.state words.old) (R.state words.new) result }
 {
     let fields = read_operands(entry, prefix, words)?;
-    match layout(entry, prefix.w, prefix.l, is_memory(fields.e), fields.reg) {
-        Some(layout) => Ok(instruction_of(&layout, &fields)),
-        None => unreachable!(),
-    }
+    // The steps have passed, so that the choice is a row.
+    let choice = Choice::of(entry, prefix.w, prefix.l, is_memory(fields.e), fields.reg);
+    Ok(choice.instruction(&fields))
 }
 
 /// Does the steps of an entry's form over the bytes after the opcode byte, and answers the instruction that they mean

@@ -4,7 +4,7 @@ ghost use Rattle.std.specs.Prelude.{◌↔◌, ◌&&◌, IsSome, IfSome, IsTrue}
 ghost use Rattle.vex_rows.specs.Row.{exists};
 ghost use Rattle.vex_forms.specs.Layout.{IsLayout, chosen, may_be, row_for};
 
-use crate::choice::Choice;
+use crate::choice::{Choice, rules_allow};
 use crate::slot::{Slot, VvvvRule};
 use arrayvec::ArrayVec;
 use vex_rows::Entry;
@@ -38,26 +38,32 @@ pub struct RowLayout {
 ///
 /// It is `None` exactly where the entry's W or L rule or one of its checks refuses that choice, or where the entry has
 /// no ModRM byte and `memory` is true.
+#[inline(never)]
+#[tactic(auto, using(crate::proofs::Choices::no_rule_no_row))]
 pub fn layout(entry: &Entry, w: bool, l: bool, memory: bool, group: u8) -> Option<RowLayout>
     ensures exists { IsSome result ↔ IsTrue (may_be entry.now memory && exists (row_for entry.now w l memory group)) }
     ensures row { IfSome result (IsLayout (row_for entry.now w l memory group)) }
 {
-    let choice = Choice::of(entry, w, l, memory, group);
-    if choice.is_row() {
-        Some(choice.layout())
-    } else {
-        None
+    if !rules_allow(entry, w, l) {
+        return None;
     }
+    let choice = Choice::of(entry, w, l, memory, group);
+    if !choice.is_row() {
+        return None;
+    }
+    choice.row_layout()
 }
 
 impl Choice {
-    /// The layout of the row.
-    fn layout(&self) -> RowLayout
-        ensures { IsLayout (chosen self.now) result }
+    /// The layout of the row. It is a call of its own, so that a choice that is no row costs little.
+    #[inline(never)]
+    fn row_layout(&self) -> Option<RowLayout>
+        ensures some { IsSome result }
+        ensures row { IfSome result (IsLayout (chosen self.now)) }
     {
         let slots = self.slots();
         let vvvv = self.vvvv_rule(slots.as_slice());
-        RowLayout {
+        Some(RowLayout {
             opcode: self.opcode(),
             slots,
             vvvv,
@@ -67,6 +73,6 @@ impl Choice {
             has_modrm: self.has_modrm(),
             group: self.group,
             has_imm: self.has_imm(),
-        }
+        })
     }
 }

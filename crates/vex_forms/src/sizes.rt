@@ -1,29 +1,19 @@
 //! The size of the memory operand of a row, in bytes.
 
 ghost use Rattle.std.specs.Prelude.{◌≡◌, find};
+ghost use Rattle.vex_rows.specs.FormRows.{sizes};
 ghost use Rattle.vex_forms.specs.Layout.{chosen};
 ghost use Rattle.vex_forms.specs.Slots.{bytes_at, found_or, is_of, size_at, size_of};
 
 use crate::choice::Choice;
-use vex_rows::{ByteCount, SizeRule, sizes_of};
+use vex_rows::{ByteCount, SizeList, SizeRule, size_in};
 use x86_operand::{MemoryAccessSize, Opcode};
 
-/// The size of an opcode in a list.
-#[tactic(auto, unfolding(x86_opcode::specs::Number::same_opcode))]
-fn size_in(sizes: &[(Opcode, ByteCount)], opcode: Opcode) -> Option<(Opcode, ByteCount)>
-    ensures { result ≡ find (is_of opcode) sizes.now }
-{
-    sizes
-        .iter()
-        .copied()
-        .find(|size| size.0.number() == opcode.number())
-}
-
 /// The size that a list has for an opcode, or else the other.
-fn size_or(sizes: &[(Opcode, ByteCount)], opcode: Opcode, other: ByteCount) -> ByteCount
-    ensures { result ≡ found_or (find (is_of opcode) sizes.now) other }
+fn size_or(list: SizeList, opcode: Opcode, other: ByteCount) -> ByteCount
+    ensures { result ≡ found_or (find (is_of opcode) (sizes list)) other }
 {
-    match size_in(sizes, opcode) {
+    match size_in(list, opcode) {
         Some(size) => size.1,
         None => other,
     }
@@ -31,6 +21,7 @@ fn size_or(sizes: &[(Opcode, ByteCount)], opcode: Opcode, other: ByteCount) -> B
 
 impl Choice {
     /// The number of bytes that the form names.
+    #[inline(always)]
     fn bytes_at(&self, count: ByteCount) -> Option<u8>
         ensures { result ≡ bytes_at (chosen self.now) count }
     {
@@ -43,13 +34,14 @@ impl Choice {
     }
 
     /// How many bytes the operand E has in memory.
+    #[inline(always)]
     fn size_at(&self, size: SizeRule) -> Option<u8>
         ensures { result ≡ size_at (chosen self.now) size }
     {
         match size {
             SizeRule::Always(count) => self.bytes_at(count),
             SizeRule::ByOpcode(list, other) => {
-                self.bytes_at(size_or(sizes_of(list), self.entry.opcode, other))
+                self.bytes_at(size_or(list, self.entry.opcode, other))
             }
         }
     }
@@ -57,6 +49,7 @@ impl Choice {
     /// How many bytes the memory operand has, and `None` where the row has none. One form reads memory though its
     /// operands are registers.
     #[tactic(auto, unfolding(crate::specs::Slots::size_of))]
+    #[inline(always)]
     fn bytes(&self) -> Option<u8>
         ensures { result ≡ size_of (chosen self.now) }
     {
@@ -68,6 +61,7 @@ impl Choice {
     }
 
     /// The size of the memory operand, and `None` where the row has none.
+    #[inline(always)]
     pub fn memory_size(&self) -> Option<MemoryAccessSize>
         ensures { result ≡ size_of (chosen self.now) }
     {

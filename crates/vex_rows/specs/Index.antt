@@ -2,7 +2,7 @@
 use Rattle.std.specs.Prelude.{ℕ, ◌+◌, ◌*◌, Bool, true, false, List, slice_index, slice_index_or, slice_range}
 use Rattle.vex_rows.specs.declared.entries.TheConstants.{NO_ENTRY}
 use Rattle.vex_rows.specs.declared.key.Key.{Key}
-use Rattle.vex_rows.specs.declared.places.TheConstants.{PLACES, STARTS}
+use Rattle.vex_rows.specs.declared.places.TheConstants.{PLACES, STARTS, SIZE_PLACES}
 use Rattle.vex_rows.specs.Cells.{cells_of}
 
 -- a bit as a number
@@ -25,3 +25,7 @@ start_list = STARTS
 -- the places of the opcode that has a number
 unfoldable pub places_at : ℕ → List ℕ
 places_at number = slice_range place_list (slice_index start_list number) (slice_index start_list (number + 1))
+
+-- where the size of each opcode stands in the lists of sizes that have it, by the opcode's number
+unfoldable pub size_place_list : List ℕ
+size_place_list = SIZE_PLACES

@@ -22,7 +22,7 @@ pub use form::Form;
 pub use form_row::{BankRule, ByteCount, FormRow, SizeList, SizeRule, SlotRule};
 pub use forms::row_of_form;
 pub use key::{Key, Map, Pp, Prefix};
-pub use sizes::sizes_of;
+pub use sizes::{size_in, sizes_of};
 pub use steps::Check;
 
 #[cfg(test)]

@@ -1,10 +1,13 @@
-//! The sizes that go by the opcode.
+//! The sizes that go by the opcode. In each list that has it an opcode stands at the same place.
 
-ghost use Rattle.std.specs.Prelude.{◌≡◌};
+ghost use Rattle.std.specs.Prelude.{◌≡◌, ◌==◌, find, Some, None, if◌then◌else◌};
+ghost use Rattle.x86_opcode.specs.Number.{opcode_number, same_opcode};
 ghost use Rattle.vex_rows.specs.FormRows.{sizes};
+ghost use Rattle.vex_rows.specs.Index.{size_place_list};
 
 use crate::form_row::ByteCount::{ByL, Is};
 use crate::form_row::{ByteCount, SizeList};
+use crate::places::SIZE_PLACES;
 use x86_operand::Opcode;
 
 /// The bytes of an element that is taken out of a vector.
@@ -23,27 +26,27 @@ pub const INSERT: &'static [(Opcode, ByteCount)] = &[
 
 /// The bytes that a store from an xmm register writes, where it writes a half of it.
 pub const STORE: &'static [(Opcode, ByteCount)] = &[
-    (Opcode::VMOVLPS, Is(8)),
     (Opcode::VMOVLPD, Is(8)),
     (Opcode::VMOVHPD, Is(8)),
+    (Opcode::VMOVLPS, Is(8)),
     (Opcode::VMOVHPS, Is(8)),
 ];
 
 /// The bytes of the source of an xmm register, where it is smaller than the register.
 pub const LOAD: &'static [(Opcode, ByteCount)] = &[
+    (Opcode::VBROADCASTSS, Is(4)),
+    (Opcode::VMOVQ, Is(8)),
     (Opcode::VPMOVSXBQ, Is(2)),
     (Opcode::VPMOVZXBQ, Is(2)),
-    (Opcode::VBROADCASTSS, Is(4)),
-    (Opcode::VUCOMISS, Is(4)),
-    (Opcode::VCOMISS, Is(4)),
     (Opcode::VPMOVSXBD, Is(4)),
     (Opcode::VPMOVZXBD, Is(4)),
     (Opcode::VPMOVSXWQ, Is(4)),
     (Opcode::VPMOVZXWQ, Is(4)),
+    (Opcode::VUCOMISS, Is(4)),
+    (Opcode::VCOMISS, Is(4)),
     (Opcode::VUCOMISD, Is(8)),
     (Opcode::VCOMISD, Is(8)),
     (Opcode::VCVTPS2PD, Is(8)),
-    (Opcode::VMOVQ, Is(8)),
     (Opcode::VPMOVSXBW, Is(8)),
     (Opcode::VPMOVZXBW, Is(8)),
     (Opcode::VPMOVSXWD, Is(8)),
@@ -58,9 +61,9 @@ pub const CONVERT: &'static [(Opcode, ByteCount)] = &[(Opcode::VCVTDQ2PD, Is(8))
 /// The bytes of the xmm source of a ymm register, where it is smaller than an xmm register.
 pub const WIDEN: &'static [(Opcode, ByteCount)] = &[
     (Opcode::VBROADCASTSS, Is(4)),
+    (Opcode::VBROADCASTSD, Is(8)),
     (Opcode::VPMOVSXBQ, Is(4)),
     (Opcode::VPMOVZXBQ, Is(4)),
-    (Opcode::VBROADCASTSD, Is(8)),
     (Opcode::VPMOVSXBD, Is(8)),
     (Opcode::VPMOVZXBD, Is(8)),
     (Opcode::VPMOVSXWQ, Is(8)),
@@ -167,5 +170,37 @@ pub fn sizes_of(list: SizeList) -> &'static [(Opcode, ByteCount)]
         SizeList::Half => HALF,
         SizeList::Move => MOVE,
         SizeList::Gather => GATHER,
+    }
+}
+
+/// Where the size of each opcode stands in the lists that have it.
+#[tactic(auto, unfolding(crate::specs::Index::size_place_list))]
+fn all_size_places() -> &'static [u16]
+    ensures { result.now ≡ size_place_list }
+{
+    &SIZE_PLACES
+}
+
+/// The size where its opcode has that number.
+#[tactic(auto, unfolding(x86_opcode::specs::Number::same_opcode))]
+fn of_number(size: (Opcode, ByteCount), number: u16) -> Option<(Opcode, ByteCount)>
+    ensures { result ≡ if opcode_number size.0 == number then Some size else None }
+{
+    if size.0.number() == number {
+        Some(size)
+    } else {
+        None
+    }
+}
+
+/// The opcode in a list with the number of its bytes, and `None` where it isn't in the list.
+pub fn size_in(list: SizeList, opcode: Opcode) -> Option<(Opcode, ByteCount)>
+    ensures { result ≡ find (λ size. same_opcode size.0 opcode) (sizes list) }
+{
+    let number = opcode.number();
+    let place = all_size_places()[number as usize];
+    match sizes_of(list).get(place as usize) {
+        Some(size) => of_number(*size, number),
+        None => None,
     }
 }
