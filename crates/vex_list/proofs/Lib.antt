@@ -1,0 +1,9 @@
+mod Places
+mod Full
+mod FirstSlot
+mod RowParts
+mod Missing
+mod Lists
+mod Sets
+mod Whole
+mod Table
