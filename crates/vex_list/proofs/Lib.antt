@@ -7,3 +7,5 @@ mod Lists
 mod Sets
 mod Whole
 mod Table
+mod Strings
+mod AllListed

@@ -8,8 +8,8 @@ use Rattle.std.proofs.lemmas.Cmp.{nat_list_cmp_total, upto, tied_itself}
 use Rattle.std.proofs.Common.{arith, ap, sym, ◌∙◌, inl, inr, subst}
 use Rattle.x86_operand.specs.Meaning.{Meaning}
 use Rattle.vex_decode.specs.Spelling.{Spells}
-use Rattle.vex_list.specs.Order.{Before, UpTo}
-use Rattle.vex_list.specs.Next.{AtMost, Later, Covers, Either, Between, ByBit}
+use Rattle.vex_list.specs.Order.{AtMost, Before, Later, UpTo}
+use Rattle.vex_list.specs.Next.{Between, ByBit, Covers, Either}
 
 -- what isn't before a string isn't left behind by it
 lt_reverse : (o : Ordering) → is_lt (ordering_reverse o) ≡ is_gt o
@@ -17,7 +17,7 @@ lt_reverse Less = refl
 lt_reverse Equal = refl
 lt_reverse Greater = refl
 
-turned : (a b : List ℕ) → is_lt (slice_cmp nat_cmp b a) ≡ is_gt (slice_cmp nat_cmp a b)
+pub turned : (a b : List ℕ) → is_lt (slice_cmp nat_cmp b a) ≡ is_gt (slice_cmp nat_cmp a b)
 turned a b = ap is_lt (nat_list_cmp_total.antisymm b a) ∙ lt_reverse (slice_cmp nat_cmp a b)
 
 lt_up : (o : Ordering) → is_lt o ≡ true → is_gt o ≡ false

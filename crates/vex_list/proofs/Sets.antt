@@ -17,7 +17,7 @@ use Rattle.vex_list.specs.declared.choices.AddressForm.TheVariants.{WithoutSib, 
 use Rattle.vex_list.specs.declared.choices.Choices.{Choices}
 use Rattle.vex_list.specs.declared.choices.RowParts.{RowParts}
 use Rattle.vex_list.specs.Choices.{made, prefix_form, place_with, chosen_fields, FormFits, IsAddressForm, Allows}
-use Rattle.vex_list.specs.Next.{Either, Between}
+use Rattle.vex_list.specs.Next.{Between, Either}
 use Rattle.vex_list.specs.Sets.{seen_fields, IsRowParts, ByChoice, ByLow, ByWidth, ByAddress, ByFreeVvvv, ByVvvv, ByR, ByB, ByX, ByTwo, with_address, with_vvvv}
 use Rattle.vex_list.specs.Laws.{IsOpen}
 use Rattle.vex_list.proofs.Missing.{none_missing}

@@ -17,8 +17,8 @@ use Rattle.vex_forms.specs.Slots.{size_of}
 use Rattle.vex_forms.specs.declared.row_layout.RowLayout.{RowLayout}
 use Rattle.vex_decode.specs.Spelling.{Syntax, Spells, SpellsBy, meant}
 use Rattle.vex_decode.specs.Laws.{SpellingLength}
-use Rattle.vex_list.specs.Order.{Before, UpTo}
-use Rattle.vex_list.specs.Next.{AtMost, Later, IsNext, Covers, Between, Either}
+use Rattle.vex_list.specs.Order.{AtMost, Before, IsNext, Later, UpTo}
+use Rattle.vex_list.specs.Next.{Between, Covers, Either}
 use Rattle.vex_list.specs.Sets.{ByChosen, ByGroup, ByMemory, ByL, ByEntry, ByEntries}
 use Rattle.vex_list.proofs.Lists.{cover_empty, cover_fewer}
 

@@ -6,8 +6,8 @@ ghost use Rattle.vex_rows.specs.declared.entry.Entry.{Entry};
 ghost use Rattle.vex_rows.specs.Entries.{entries_with};
 ghost use Rattle.vex_rows.specs.Row.{Among};
 ghost use Rattle.vex_rows.specs.Table.{table};
-ghost use Rattle.vex_list.specs.Order.{Before, UpTo};
-ghost use Rattle.vex_list.specs.Next.{Covers, IsNext};
+ghost use Rattle.vex_list.specs.Order.{Before, IsNext, UpTo};
+ghost use Rattle.vex_list.specs.Next.{Covers};
 ghost use Rattle.vex_list.specs.Sets.{ByEntries};
 
 use crate::rows::by_entry;

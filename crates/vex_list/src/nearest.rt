@@ -2,8 +2,8 @@
 
 ghost use Rattle.std.specs.Prelude.{◌≡◌, ◌↔◌, ◌≤◌, length, IsTrue};
 ghost use Rattle.vex_decode.specs.Spelling.{Spells};
-ghost use Rattle.vex_list.specs.Order.{Before};
-ghost use Rattle.vex_list.specs.Next.{AtMost, Covers};
+ghost use Rattle.vex_list.specs.Order.{AtMost, Before};
+ghost use Rattle.vex_list.specs.Next.{Covers};
 
 use vex_decode::{Decoder, blocked_or_begun, one_meaning, prefix_free};
 use vex_encode::Spelling;

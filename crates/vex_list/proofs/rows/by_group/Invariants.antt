@@ -1,5 +1,5 @@
 -- What was covered: the groups so far.
-use Rattle.vex_list.specs.Next.{Covers, Between}
+use Rattle.vex_list.specs.Next.{Between, Covers}
 use Rattle.vex_list.specs.Sets.{ByChosen}
 use Rattle.vex_list.proofs.rows.by_group.Given as goal
 

@@ -1,7 +1,7 @@
 -- What was covered: the values so far.
 use Rattle.vex_rows.specs.Row.{Row}
 use Rattle.std.specs.Prelude.{◌-◌}
-use Rattle.vex_list.specs.Next.{Covers, Between}
+use Rattle.vex_list.specs.Next.{Between, Covers}
 use Rattle.vex_list.specs.Sets.{IsRowParts, ByAddress, with_vvvv}
 use Rattle.vex_list.proofs.search.by_free_vvvv.Given as goal
 

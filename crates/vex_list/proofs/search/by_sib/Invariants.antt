@@ -1,7 +1,7 @@
 -- What was covered: the values so far.
 use Rattle.vex_rows.specs.Row.{Row}
 use Rattle.vex_list.specs.declared.choices.AddressForm.TheVariants.{WithSib}
-use Rattle.vex_list.specs.Next.{Covers, Between}
+use Rattle.vex_list.specs.Next.{Between, Covers}
 use Rattle.vex_list.specs.Sets.{IsRowParts, ByLow, with_address}
 use Rattle.vex_list.proofs.search.by_sib.Given as goal
 
