@@ -1,8 +1,8 @@
 -- The list of all spellings of a meaning, and the next of them after any bytes.
-use Rattle.std.specs.Prelude.{◌≡◌, refl, ℕ, ◌≤◌, Bool, true, false, List, [], ◌∷◌, ◌++◌, find, filter, cond, Option, Some, None, Ok, Err}
+use Rattle.std.specs.Prelude.{◌≡◌, refl, ℕ, Bool, true, false, List, [], ◌∷◌, find, filter, cond, Option, Some, None, Ok, Err}
 use Rattle.std.specs.Cmp.Lexicographic.{slice_cmp}
 use Rattle.std.specs.Ordering.{nat_cmp, is_lt, is_gt}
-use Rattle.std.proofs.Common.{Ordering, Less, Equal, Greater, arith, ap, sym, ◌∙◌, inl, inr, subst}
+use Rattle.std.proofs.Common.{Ordering, Less, Equal, Greater, ap, sym, ◌∙◌, inl, inr, subst}
 use Rattle.std.proofs.lemmas.List.{append-nil}
 use Rattle.std.proofs.lemmas.Map.Lookups.{exact_bytes}
 use Rattle.x86_operand.specs.Meaning.{Meaning}
@@ -15,7 +15,7 @@ use Rattle.vex_rows.specs.Row.Lists.{among-filter, from-filter, found-find, none
 use Rattle.vex_decode.specs.Laws.{ReadingIsSpelling, SpellingIsRead, SpellingBytes, SpellingLength}
 use Rattle.vex_decode.specs.Spelling.{Syntax, Spells, bytes_of, meant}
 use Rattle.vex_decode.specs.Walk.{walk}
-use Rattle.vex_list.specs.Order.{is_before, Before, UpTo, Ascending, AtMost, Later, IsNext, IsListOfAll}
+use Rattle.vex_list.specs.Order.{is_before, UpTo, Ascending, IsNext, IsListOfAll}
 use Rattle.vex_list.specs.Laws.{AllAreListed, NextIsListed}
 use Rattle.vex_list.proofs.Lists.{before_up, up_itself, turned}
 use Rattle.vex_list.proofs.Strings.{strings, ascending_filter, ascending_strings, bytes_in_strings, in_strings}
@@ -48,11 +48,14 @@ is_spelled law m b is h = by (walk b) refl h where
   by (Err error) e h = cc
 
 pub all_are_listed : SpellingIsRead → ReadingIsSpelling → SpellingBytes → SpellingLength → AllAreListed
-all_are_listed read law are_bytes long m = (filter (is_spelling m) (strings 11), record {
-  ascending = ascending_filter (is_spelling m) (strings 11) (ascending_strings 11);
-  spelled = λ b k. let kept = from-filter (is_spelling m) b (strings 11) k in is_spelled law m b (bytes_in_strings 11 b kept.1) kept.0;
-  complete = λ b s. among-filter (is_spelling m) b (strings 11) (spelled_is read m b s) (in_strings 11 b (are_bytes b m s) (long b m s).1);
-})
+all_are_listed read law are_bytes long m = (
+  filter (is_spelling m) (strings 11),
+  record {
+    ascending = ascending_filter (is_spelling m) (strings 11) (ascending_strings 11);
+    spelled = λ b k. let kept = from-filter (is_spelling m) b (strings 11) k in is_spelled law m b (bytes_in_strings 11 b kept.1) kept.0;
+    complete = λ b s. among-filter (is_spelling m) b (strings 11) (spelled_is read m b s) (in_strings 11 b (are_bytes b m s) (long b m s).1);
+  },
+)
 
 -- ---- the next in a list
 

@@ -8,7 +8,7 @@ use Rattle.std.proofs.lemmas.Cmp.{nat_list_cmp_total, upto, tied_itself}
 use Rattle.std.proofs.Common.{arith, ap, sym, ◌∙◌, inl, inr, subst}
 use Rattle.x86_operand.specs.Meaning.{Meaning}
 use Rattle.vex_decode.specs.Spelling.{Spells}
-use Rattle.vex_list.specs.Order.{AtMost, Before, Later, UpTo}
+use Rattle.vex_list.specs.Order.{AtMost, Before, UpTo}
 use Rattle.vex_list.specs.Next.{Between, ByBit, Covers, Either}
 
 -- what isn't before a string isn't left behind by it

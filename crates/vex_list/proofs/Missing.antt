@@ -1,21 +1,20 @@
 -- Whatever parts of a row mean a meaning are made by some open choice.
-use Rattle.std.specs.Prelude.{◌≡◌, refl, ◌⊎◌, ℕ, zero, suc, ◌+◌, ◌-◌, ◌*◌, ◌/◌, ◌%◌, ◌<◌, ◌≤◌, ◌==◌, Bool, true, false, not, ◌||◌, List, [], ◌∷◌, map, Option, Some, None, if◌then◌else◌}
+use Rattle.std.specs.Prelude.{◌≡◌, refl, ◌⊎◌, ℕ, zero, suc, ◌+◌, ◌-◌, ◌*◌, ◌%◌, ◌<◌, ◌≤◌, ◌==◌, Bool, true, false, not, ◌||◌, List, [], ◌∷◌, map, Option, Some, None, if◌then◌else◌}
 use Rattle.std.specs.Int.{cast_signed, cast_unsigned, w8}
 use Rattle.std.specs.List.{list_any}
 use Rattle.std.proofs.Common.{arith, ap, sym, ◌∙◌, inl, inr, subst}
 use Rattle.std.proofs.lemmas.Int.{of_z-to_z}
 use Rattle.x86_opcode.specs.declared.Opcode.{Opcode}
 use Rattle.x86_operand.specs.declared.register.RegisterBank.{RegisterBank}
-use Rattle.x86_operand.specs.Kind.{Kind, WithoutModRM, InRegister, InMemory, VectorIndexed, is_vector, plain_kind, memory_kind}
+use Rattle.x86_operand.specs.Kind.{Kind, WithoutModRM, InRegister, is_vector, plain_kind, memory_kind}
 use Rattle.x86_operand.specs.Meaning.{OperandMeaning, nothing, Meaning}
 use Rattle.x86_address.specs.Bytes.{bit}
-use Rattle.x86_address.specs.Place.{Place, NoPlace, Direct, Based, RipBased, Scaled, Baseless, IsPlace, kind_of, Target, NoTarget, Number, At, kind_of_target, target}
-use Rattle.x86_address.specs.Place.Laws.{plain_without}
+use Rattle.x86_address.specs.Place.{Place, NoPlace, Direct, Based, RipBased, Scaled, Baseless, kind_of, Target, NoTarget, Number, At, kind_of_target, target}
 use Rattle.x86_address.specs.Shortest.{is_upper}
 use Rattle.x86_address.specs.Shortest.Laws.{kind_of_target-target, plain-in_banks, is_upper-field}
 use Rattle.vex_rows.specs.FormRows.{gathers}
 use Rattle.vex_rows.specs.Steps.{steps}
-use Rattle.vex_rows.specs.Row.{Row, Among, IsRow, has_groups, has_imm, group_choices, kinds_of}
+use Rattle.vex_rows.specs.Row.{Row, Among, IsRow, has_groups, has_imm, group_choices}
 use Rattle.vex_rows.specs.Groups.{groups}
 use Rattle.vex_rows.specs.Row.Laws.{Chosen, chosen-row}
 use Rattle.vex_forms.specs.declared.slot.Slot.{Slot}
@@ -32,7 +31,7 @@ use Rattle.vex_list.specs.declared.choices.PrefixForm.TheVariants.{TwoBytes, Thr
 use Rattle.vex_list.specs.declared.choices.Choices.{Choices}
 use Rattle.vex_list.specs.Choices.{made, chosen_fields, imm_operand, place_with, FormFits, Allows, r_fixed, x_fixed, b_fixed, v_fixed, lows_of, prefix_form}
 use Rattle.vex_list.specs.Laws.{IsMade}
-use Rattle.vex_list.proofs.Full.{Full, full_row}
+use Rattle.vex_list.proofs.Full.{full_row}
 use Rattle.vex_list.proofs.Places.{form_of, place_again, form_fits, is_address_form, x_allowed, b_allowed}
 
 -- ---- the first slot of a kind

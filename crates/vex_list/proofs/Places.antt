@@ -1,7 +1,7 @@
 -- A place is made by its own form of the target that it names, with the bits X and B that this fixes.
-use Rattle.std.specs.Prelude.{◌≡◌, refl, ℕ, ℤ, pos, negsuc, ◌+◌, ◌*◌, ◌%◌, ◌^◌, ◌<◌, ◌≤◌, Bool, true, false, not, ◌&&◌, ◌==◌, Option, Some, None, if◌then◌else◌}
+use Rattle.std.specs.Prelude.{◌≡◌, refl, ℕ, ℤ, pos, negsuc, ◌+◌, ◌*◌, ◌%◌, ◌^◌, ◌<◌, Bool, true, false, not, ◌&&◌, ◌==◌, Some, None, if◌then◌else◌}
 use Rattle.std.specs.Int.{cast_signed, w8, w32}
-use Rattle.std.proofs.Common.{arith, ap, ap₂, sym, ◌∙◌, eqb-true}
+use Rattle.std.proofs.Common.{arith, ap, ap₂, sym, eqb-true}
 use Rattle.std.proofs.lemmas.Int.{ints}
 use Rattle.x86_address.specs.Bytes.{bit, Displacement, Absent, Short, Long, IsDisplacement, displacement_value}
 use Rattle.x86_address.specs.Place.{Place, NoPlace, Direct, Based, RipBased, Scaled, Baseless, IsPlace, index_of, target}

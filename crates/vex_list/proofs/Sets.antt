@@ -1,12 +1,11 @@
 -- Every string that a row spells is among those of the choices.
-use Rattle.std.specs.Prelude.{◌≡◌, refl, ◌⊎◌, ℕ, ◌+◌, ◌-◌, ◌≤◌, ◌<◌, Bool, true, false, List, ◌∷◌, ◌++◌, Option, Some}
+use Rattle.std.specs.Prelude.{◌≡◌, refl, ℕ, ◌+◌, ◌-◌, ◌<◌, Bool, true, false, List, ◌∷◌, ◌++◌, Option, Some}
 use Rattle.std.proofs.Common.{arith, ap, sym, ◌∙◌, inl, inr, subst}
 use Rattle.x86_operand.specs.Meaning.{Meaning}
 use Rattle.x86_address.specs.Place.{place_bytes}
-use Rattle.vex_rows.specs.declared.key.Map.{Map}
 use Rattle.vex_rows.specs.Row.{Row, IsRow}
 use Rattle.vex_forms.specs.Operands.{target_seen}
-use Rattle.vex_decode.specs.Spelling.{Syntax, bytes_of, imm_bytes, SpellsBy}
+use Rattle.vex_decode.specs.Spelling.{bytes_of, imm_bytes, SpellsBy}
 use Rattle.vex_decode.specs.Fields.{prefix_bytes, CanSay}
 use Rattle.vex_list.specs.declared.choices.PrefixForm.{PrefixForm}
 use Rattle.vex_list.specs.declared.choices.PrefixForm.TheVariants.{TwoBytes, ThreeBytes}
@@ -18,7 +17,7 @@ use Rattle.vex_list.specs.declared.choices.Choices.{Choices}
 use Rattle.vex_list.specs.declared.choices.RowParts.{RowParts}
 use Rattle.vex_list.specs.Choices.{made, prefix_form, place_with, chosen_fields, FormFits, IsAddressForm, Allows}
 use Rattle.vex_list.specs.Next.{Between, Either}
-use Rattle.vex_list.specs.Sets.{seen_fields, IsRowParts, ByChoice, ByLow, ByWidth, ByAddress, ByFreeVvvv, ByVvvv, ByR, ByB, ByX, ByTwo, with_address, with_vvvv}
+use Rattle.vex_list.specs.Sets.{seen_fields, IsRowParts, ByLow, ByWidth, ByAddress, ByFreeVvvv, ByVvvv, ByR, ByB, ByX, ByTwo, with_address, with_vvvv}
 use Rattle.vex_list.specs.Laws.{IsOpen}
 use Rattle.vex_list.proofs.Missing.{none_missing}
 

@@ -78,9 +78,9 @@ ascending_joined : (tails : List (List ℕ)) (n k : ℕ) → Ascending tails →
 unfolding joined
 ascending_joined tails zero k a = tt
 ascending_joined tails (suc n) k a = ascending_append (map (λ tail. k ∷ tail) tails) (joined tails n (suc k)) (ascending_map k tails a) (ascending_joined tails n (suc k) a) (λ x y m l.
-  let t = from-map (λ tail. k ∷ tail) x tails m in
-  let later = from_joined tails n (suc k) y l in
-  subst₂ Before (sym t.2) (sym later.is) (less_first k later.first t.0 later.tail (omega (arith, later.from))))
+    let t = from-map (λ tail. k ∷ tail) x tails m in
+    let later = from_joined tails n (suc k) y l in
+    subst₂ Before (sym t.2) (sym later.is) (less_first k later.first t.0 later.tail (omega (arith, later.from))))
 
 -- all strings of at most n bytes
 unfoldable pub strings : ℕ → List (List ℕ)

@@ -1,7 +1,6 @@
 -- Every spelling is that of a choice of an entry of the opcode.
 use Rattle.std.specs.Prelude.{◌≡◌, refl, ◌↔◌, ◌⊎◌, IfSome, IsNone, ℕ, ◌+◌, ◌≤◌, ◌<◌, Bool, true, false, ◌&&◌, List, [], ◌∷◌, length, Option, Some, None, if◌then◌else◌, take}
 use Rattle.std.proofs.Common.{zero, suc, get_or, add-one, inl, inr, arith, ap, sym, ◌∙◌, subst}
-use Rattle.x86_opcode.specs.declared.Opcode.{Opcode}
 use Rattle.x86_operand.specs.Meaning.{Meaning}
 use Rattle.vex_rows.specs.declared.entry.Entry.{Entry}
 use Rattle.vex_rows.specs.Entries.{entries_with}
@@ -11,16 +10,16 @@ use Rattle.vex_rows.specs.Row.Lists.{both-parts, parts-both}
 use Rattle.vex_rows.specs.Row.Laws.{chosen-row}
 use Rattle.vex_rows.specs.Table.{table}
 use Rattle.vex_forms.specs.Gives.{gives}
-use Rattle.vex_forms.specs.Laws.{IsChoice, RowsAreChoices, ChoicesAreRows}
+use Rattle.vex_forms.specs.Laws.{RowsAreChoices, ChoicesAreRows}
 use Rattle.vex_forms.specs.Layout.{row_for, may_be, group_for, IsLayout}
 use Rattle.vex_forms.specs.Slots.{size_of}
 use Rattle.vex_forms.specs.declared.row_layout.RowLayout.{RowLayout}
 use Rattle.vex_decode.specs.Spelling.{Syntax, Spells, SpellsBy, meant}
 use Rattle.vex_decode.specs.Laws.{SpellingLength}
-use Rattle.vex_list.specs.Order.{AtMost, Before, IsNext, Later, UpTo}
-use Rattle.vex_list.specs.Next.{Between, Covers, Either}
-use Rattle.vex_list.specs.Sets.{ByChosen, ByGroup, ByMemory, ByL, ByEntry, ByEntries}
-use Rattle.vex_list.proofs.Lists.{cover_empty, cover_fewer}
+use Rattle.vex_list.specs.Order.{Before, IsNext, UpTo}
+use Rattle.vex_list.specs.Next.{Covers, Either}
+use Rattle.vex_list.specs.Sets.{ByChosen, ByGroup, ByEntry, ByEntries}
+use Rattle.vex_list.proofs.Lists.{cover_empty}
 
 -- what a row means has its opcode and its size
 opcode_meant : (row : Row) (s : Syntax) → (meant row s).opcode ≡ opcode_of row

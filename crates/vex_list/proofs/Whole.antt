@@ -1,6 +1,6 @@
 -- What a decode of whole bytes answers, they spell.
-use Rattle.std.specs.Prelude.{◌≡◌, refl, ◌≤◌, IsTrue, Bool, true, ℕ, List, [], ◌++◌, length, take, drop, Some, None}
-use Rattle.std.proofs.Common.{arith, ap, sym, ◌∙◌, subst, take-append-drop}
+use Rattle.std.specs.Prelude.{◌≡◌, ◌≤◌, ℕ, List, [], length, take, drop, Some, None}
+use Rattle.std.proofs.Common.{ap, sym, ◌∙◌, subst, take-append-drop}
 use Rattle.std.proofs.Math.Seq.{take-length}
 use Rattle.std.proofs.lemmas.List.{append-nil, length-take-le}
 use Rattle.x86_operand.specs.declared.error.DecodeError.{DecodeError}

@@ -1,6 +1,5 @@
 -- What a meaning and a row leave open to a spelling. Private functions and one law alone cite what stands here.
 use Rattle.std.specs.Prelude.{◌≡◌, ℕ, ◌+◌, ◌%◌, ◌<◌, ℤ, Bool, if◌then◌else◌, Option, Some, None}
-use Rattle.std.specs.List.{list_any}
 use Rattle.x86_operand.specs.Kind.{Kind, WithoutModRM, InRegister, InMemory, plain_kind}
 use Rattle.x86_operand.specs.Meaning.{Meaning, OperandMeaning, register}
 use Rattle.x86_address.specs.Bytes.{bit, Displacement, Absent, Short, Long}

@@ -15,8 +15,7 @@ use Rattle.vex_forms.specs.Slots.{slots, names_g, v_rule}
 use Rattle.vex_forms.specs.Fields.{Fields}
 use Rattle.vex_decode.specs.Spelling.{bytes_of, SpellsBy}
 use Rattle.vex_encode.specs.Standard.{reg_for, imm_of}
-use Rattle.vex_list.specs.declared.choices.PrefixForm.{PrefixForm}
-use Rattle.vex_list.specs.declared.choices.PrefixForm.TheVariants.{TwoBytes, ThreeBytes}
+use Rattle.vex_list.specs.declared.choices.PrefixForm.TheVariants.{TwoBytes}
 use Rattle.vex_list.specs.declared.choices.Width.{Width}
 use Rattle.vex_list.specs.declared.choices.AddressForm.{AddressForm}
 use Rattle.vex_list.specs.declared.choices.AddressForm.TheVariants.{WithoutSib, WithSib}

@@ -1,5 +1,5 @@
 -- The entries of the opcode are enough.
-use Rattle.std.proofs.Common.{ap, sym, subst, ◌∙◌, None}
+use Rattle.std.proofs.Common.{ap, subst, ◌∙◌, None}
 use Rattle.vex_rows.specs.Entries.{entries_with}
 use Rattle.vex_rows.specs.Entries.Laws.{listed_entry}
 use Rattle.vex_rows.specs.Row.{Among}

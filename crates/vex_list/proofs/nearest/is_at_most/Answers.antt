@@ -1,6 +1,6 @@
 -- A test of the order tells of the opposite order.
 use Rattle.std.specs.Prelude.{◌↔◌, IsTrue, not}
-use Rattle.std.proofs.Common.{sym, subst, subst₂}
+use Rattle.std.proofs.Common.{sym, subst}
 use Rattle.vex_list.specs.Order.{AtMost, UpTo}
 use Rattle.vex_list.proofs.Lists.{not_before, before_not, told}
 use Rattle.vex_list.proofs.nearest.is_at_most.Goals as goal

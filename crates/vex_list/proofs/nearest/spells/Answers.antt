@@ -1,6 +1,5 @@
 -- The bytes are all taken and mean it exactly where they spell it.
-use Rattle.std.proofs.Common.{◌≡◌, IsTrue, true, false, refl, sym, subst, ◌∙◌, Some, eqb-true, eq-eqb}
-use Rattle.x86_settings.specs.Bits.{all_bits}
+use Rattle.std.proofs.Common.{◌≡◌, true, false, sym, subst, ◌∙◌, Some, eqb-true}
 use Rattle.vex_decode.specs.Blocked.{blocked}
 use Rattle.vex_list.proofs.Whole.{whole, not_refused, its_length, its_meaning}
 use Rattle.vex_list.proofs.nearest.spells.Goals as goal

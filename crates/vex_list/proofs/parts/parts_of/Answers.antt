@@ -5,7 +5,7 @@ use Rattle.vex_forms.specs.Layout.{row_for}
 use Rattle.vex_forms.specs.Slots.{slots, names_g}
 use Rattle.vex_encode.specs.Standard.{operand_of_kind, number_of, imm_of, target_of, reg_for}
 use Rattle.vex_list.specs.declared.operands.SlotKind.TheVariants as of_kind
-use Rattle.vex_list.specs.Choices.{names, kind_by, lows_of, r_fixed, x_fixed, b_fixed, v_fixed, g_number, v_number, e_target}
+use Rattle.vex_list.specs.Choices.{names, kind_by, lows_of, r_fixed, x_fixed, b_fixed, v_fixed, g_number, v_number}
 use Rattle.vex_list.proofs.RowParts.{bit_if, reg_unwrapped, kind_plain}
 use Rattle.vex_list.proofs.parts.parts_of.Goals as goal
 

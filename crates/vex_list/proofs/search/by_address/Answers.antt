@@ -3,7 +3,7 @@ use Rattle.std.proofs.Common.{subst}
 use Rattle.vex_forms.specs.Operands.{target_seen}
 use Rattle.vex_list.specs.Choices.{FormFits}
 use Rattle.vex_list.proofs.Lists.{cover_either, cover_fewer}
-use Rattle.vex_list.proofs.Sets.{by_widths, by_itself}
+use Rattle.vex_list.proofs.Sets.{by_widths}
 use Rattle.vex_list.proofs.search.by_address.Goals as goal
 
 pub returns-in-Memory : goal.returns-in-Memory

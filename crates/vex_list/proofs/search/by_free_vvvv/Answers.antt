@@ -1,5 +1,5 @@
 -- One more value, and all of them.
-use Rattle.std.proofs.Common.{arith, sym, ◌∙◌}
+use Rattle.std.proofs.Common.{arith}
 use Rattle.vex_list.proofs.Lists.{cover_none, cover_more, cover_to, cover_fewer}
 use Rattle.vex_list.proofs.Sets.{by_inverted}
 use Rattle.vex_list.proofs.search.by_free_vvvv.Goals as goal

@@ -1,6 +1,6 @@
 -- One more value, and all of them.
-use Rattle.std.proofs.Common.{arith, sym, ◌∙◌}
-use Rattle.vex_list.proofs.Lists.{cover_none, cover_more, cover_to, cover_fewer}
+use Rattle.std.proofs.Common.{arith}
+use Rattle.vex_list.proofs.Lists.{cover_none, cover_more, cover_to}
 use Rattle.vex_list.proofs.search.by_sib.Goals as goal
 
 pub loop-exponent-init : goal.loop-exponent-init
