@@ -3,7 +3,7 @@
 ghost use Rattle.std.specs.Cmp.Lexicographic.{pointwise};
 ghost use Rattle.std.specs.Cmp.Rules.{comparing};
 ghost use Rattle.std.proofs.Common.{rules};
-ghost use Rattle.std.specs.Prelude.{nat_eq, ◌≡◌, ◌↔◌, IsTrue, [], ◌∷◌, ◌++◌, ◌<◌, ◌≤◌, ◌+◌, length};
+ghost use Rattle.std.specs.Prelude.{nat_eq, ◌≡◌, ◌↔◌, IsTrue, IsSome, IfSome, [], ◌∷◌, ◌++◌, ◌<◌, ◌≤◌, ◌+◌, length};
 
 use arrayvec::ArrayVec;
 use std::marker::Model;
@@ -34,6 +34,19 @@ impl Spelling {
         Spelling {
             bytes: ArrayVec::new(),
         }
+    }
+
+    /// These bytes, whatever they are, and `None` exactly where there are more than 11.
+    pub fn of(bytes: &[u8]) -> Option<Spelling>
+        ensures within { IsSome result ↔ (length bytes.now ≤ 11) }
+        ensures bytes { IfSome result (λ spelling. spelling ≡ bytes.now) }
+    {
+        if bytes.len() > MAX_SPELLING {
+            return None;
+        }
+        let mut spelling = Spelling::new();
+        spelling.extend(bytes);
+        Some(spelling)
     }
 
     /// Appends a byte.

@@ -1,0 +1,11 @@
+mod Places
+mod Full
+mod FirstSlot
+mod RowParts
+mod Missing
+mod Lists
+mod Sets
+mod Whole
+mod Table
+mod Strings
+mod AllListed
