@@ -65,6 +65,21 @@ fn bits_are_shared_and_members_joined(rt: HostRuntime) {
             none.with_amx_vnni_int16().amx_vnni_int8(),
             true,
         ),
+        (
+            "vnni_int8, vnni_int16",
+            none.with_amx_vnni_int8().amx_vnni_int16(),
+            true,
+        ),
+        (
+            "complex, vnni_int8",
+            none.with_amx_complex().amx_vnni_int8(),
+            true,
+        ),
+        (
+            "vnni_int16, complex",
+            none.with_amx_vnni_int16().amx_complex(),
+            true,
+        ),
         ("uwrmsr, fred", none.with_uwrmsr().fred(), true),
         ("fred, urdmsr", none.with_fred().urdmsr(), true),
         ("sse4_1, sse4", none.with_sse4_1().sse4(), false),
