@@ -1,6 +1,6 @@
 //! All spellings of an instruction, one after another.
 
-ghost use Rattle.std.specs.Prelude.{◌≡◌, ◌↔◌, ◌<◌, ℕ, [], List, IsNone, IfSome, None};
+ghost use Rattle.std.specs.Prelude.{◌≡◌, ◌↔◌, ◌<◌, ℕ, [], List, IsNone, IfSome, IsTrue, None};
 ghost use Rattle.vex_decode.specs.Spelling.{Spells};
 ghost use Rattle.vex_rows.specs.declared.entry.Entry.{Entry};
 ghost use Rattle.vex_rows.specs.Entries.{entries_with};
@@ -16,7 +16,7 @@ use std::marker::Brand;
 use std::sync::ledger::{Blank, Ledger};
 use step_counter::Steps;
 use vex_decode::prefix_free;
-use vex_encode::Spelling;
+use vex_encode::{Spelling, encode_shortest};
 use vex_forms::laws::rows_are_choices;
 use vex_rows::laws::rows_have_entries;
 use vex_rows::{Entry, entries_of};
@@ -30,6 +30,16 @@ fn counted_entries<L: Ledger>(opcode: Opcode, blank: Blank) -> ArrayVec<Entry, 4
     ensures { result.items ≡ entries_with opcode }
 {
     entries_of(opcode, &mut Steps::<L>::new(blank))
+}
+
+/// Whether no bytes spell the instruction's meaning.
+fn has_none<L: Ledger>(instruction: &Instruction, blank: Blank) -> bool
+    requires name { blank.name ≡ L.name }
+    requires parts { blank.parts ≡ L.parts }
+    requires some { 0 < blank.parts }
+    ensures { IsTrue result → (bytes : List ℕ) → Spells bytes instruction.now.meaning → ⊥ }
+{
+    encode_shortest(instruction, &mut Steps::<L>::new(blank)).is_err()
 }
 
 /// Over the rows of some entries.
@@ -51,6 +61,10 @@ fn next_spelling(instruction: &Instruction, previous: &[u8]) -> Option<Spelling>
     // Laws: a row is that of an entry of its opcode, at some choice.
     rows_have_entries();
     rows_are_choices();
+    // Else each choice would be decoded, since none is ever the nearest.
+    if has_none::<Brand>(instruction, Blank::new(1)) {
+        return None;
+    }
     let entries = counted_entries::<Brand>(instruction.opcode(), Blank::new(1));
     by_entries(entries.as_slice(), instruction, previous)
 }
