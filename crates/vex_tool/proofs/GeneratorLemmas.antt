@@ -1,6 +1,6 @@
 -- The greatest reg field of a row, field by field, and the totals, spelling by spelling.
 use Rattle.std.proofs.lemmas.Nat.{mod_below}
-use Rattle.std.proofs.Common.{◌≡◌, ℕ, suc, ◌+◌, ◌-◌, ◌*◌, ◌/◌, ◌%◌, ◌<◌, ◌≤◌, Bool, true, false, Option, Some, None, sym, ap, subst, ◌∙◌, refl, arith, if◌then◌else◌, IsTrue, List, length, slice_get, sum}
+use Rattle.std.proofs.Common.{◌≡◌, ℕ, suc, ◌+◌, ◌-◌, ◌/◌, ◌%◌, ◌<◌, ◌≤◌, Bool, true, false, Option, Some, None, sym, ap, subst, ◌∙◌, refl, arith, if◌then◌else◌, List, length, slice_get, sum}
 use Rattle.vex_rows.specs.declared.entry.Entry.{Entry}
 use Rattle.vex_rows.specs.Table.{table}
 use Rattle.vex_tool.specs.declared.make_line.Totals.{Totals}

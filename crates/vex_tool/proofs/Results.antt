@@ -8,7 +8,6 @@ use Rattle.vex_decode.specs.Walk.{walk}
 use Rattle.vex_forms.specs.FormWalk.{taken}
 use Rattle.vex_decode.specs.Laws.{SpellingIsRead}
 use Rattle.vex_encode.specs.Canon.{canon}
-use Rattle.x86_settings.specs.Bits.{all_bits}
 use Rattle.vex_tool.specs.Generator.{recoding, recoding_of, recoding_unless}
 use Rattle.vex_tool.specs.Laws.{LineOfSpelling, LineOfError, RecodingOfSpelling, RecodingOfError}
 use Rattle.vex_tool.specs.ResultLine.{instruction_line, line_of_reading, line_unless_blocked, result_line}

@@ -1,4 +1,4 @@
-use Rattle.std.proofs.Common.{ap, ◌∙◌}
+use Rattle.std.proofs.Common.{◌∙◌}
 use Rattle.vex_tool.proofs.GeneratorLemmas.{entries-there, entry-place, generated-at}
 use Rattle.vex_tool.proofs.generator.generated.Goals as goal
 
