@@ -31,8 +31,8 @@ start = record {
   memory = start_memory;
 }
 
--- the line of some bytes: a letter and a number, which name them, and the bytes in hex digits; none where they are still
--- those of the start
+-- the line of some bytes: a letter and a number, which name them, and the bytes in hex digits; none where they are as at
+-- the start
 unfoldable pub changed_line : List ℕ → ℕ → List ℕ → List ℕ → List ℕ
 changed_line letter number bytes first =
     if bytes_eq bytes first then [] else letter ++ decimal number ++ codes " " ++ encode_lower bytes ++ codes "\n"

@@ -3,7 +3,8 @@
 ghost use Rattle.std.specs.Prelude.{◌≡◌, ◌≤◌, ◌+◌, ◌++◌, codes, decimal, length};
 ghost use Rattle.std.specs.Simd.Lanes.{chunk};
 ghost use Rattle.hex.specs.Hex.{encode_lower};
-ghost use Rattle.vex_tool.specs.EmulateLines.{block_lines, changed_line, counting, emulate_lines, ran_line, start, vector_lines};
+ghost use Rattle.vex_tool.specs.EmulateLines.{block_lines, changed_line, counting, emulate_lines, ran_line, vector_lines};
+ghost use Rattle.vex_tool.specs.EmulateLines.{start};
 ghost use Rattle.vex_tool.specs.Ends.{Writes};
 
 use crate::ends::{Failed, Sink};
@@ -18,7 +19,7 @@ pub const MEMORY: usize = 1024;
 /// How many bytes a vector has, and a block of the memory.
 const BLOCK: usize = 32;
 
-// Fills the bytes: they count up from a number, modulo 256.
+// Fills the bytes, which then count up from a number, modulo 256.
 fn count_up(first: usize, bytes: &mut [u8])
     requires { first + length bytes.old ≤ 2048 }
     ensures { bytes.new ≡ counting first (length bytes.old) }
@@ -28,7 +29,7 @@ fn count_up(first: usize, bytes: &mut [u8])
     }
 }
 
-// A vector, or a block of the memory, at the start.
+// A vector, or a block of the memory, at the start, by what it begins with.
 fn block_from(first: usize) -> [u8; BLOCK]
     requires { first ≤ 1024 }
     ensures { result ≡ counting first 32 }
@@ -87,17 +88,13 @@ fn write_changed<K: Sink>(
 
 // Writes the lines of the vectors that changed.
 fn write_vectors<K: Sink>(machine: &Machine<'_>, sink: &mut K) -> Result<(), Failed>
-    ensures { Writes result (K.text sink.old) (K.text sink.new) (K.faults sink.old) (K.faults sink.new) (vector_lines machine.now.vectors) }
+    ensures { Writes result (K.text sink.old) (K.text sink.new) (K.faults sink.old) (K.faults sink.new)
+        (vector_lines machine.now.vectors) }
 {
     for i in 0..16 {
         let number = usize::from(i);
-        write_changed(
-            "y",
-            number,
-            machine.vector(i),
-            &block_from(16 * number),
-            sink,
-        )?;
+        let start = block_from(16 * number);
+        write_changed("y", number, machine.vector(i), &start, sink)?;
     }
     Ok(())
 }
@@ -114,17 +111,13 @@ fn block_at(memory: &[u8], place: usize) -> &[u8]
 // Writes the lines of the blocks of the memory that changed.
 fn write_blocks<K: Sink>(memory: &[u8], sink: &mut K) -> Result<(), Failed>
     requires { length memory.now ≡ 1024 }
-    ensures { Writes result (K.text sink.old) (K.text sink.new) (K.faults sink.old) (K.faults sink.new) (block_lines memory.now) }
+    ensures { Writes result (K.text sink.old) (K.text sink.new) (K.faults sink.old) (K.faults sink.new)
+        (block_lines memory.now) }
 {
     for b in 0..32 {
         let place = BLOCK * b;
-        write_changed(
-            "m",
-            place,
-            block_at(memory, place),
-            &block_from(place),
-            sink,
-        )?;
+        let start = block_from(place);
+        write_changed("m", place, block_at(memory, place), &start, sink)?;
     }
     Ok(())
 }
@@ -158,7 +151,8 @@ pub fn write_emulated<K: Sink>(
     memory: &mut [u8; MEMORY],
     sink: &mut K,
 ) -> Result<(), Failed>
-    ensures { Writes result (K.text sink.old) (K.text sink.new) (K.faults sink.old) (K.faults sink.new) (emulate_lines settings.now code.now) }
+    ensures { Writes result (K.text sink.old) (K.text sink.new) (K.faults sink.old) (K.faults sink.new)
+        (emulate_lines settings.now code.now) }
 {
     let mut machine = machine_at_start(memory);
     let answer = run_code(&mut machine, settings, code);

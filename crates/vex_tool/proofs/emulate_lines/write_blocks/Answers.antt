@@ -18,7 +18,7 @@ returns-in_err-write_changed g c =
     let i = c.loop-b.b in
     let wrote = c.loop-b.invariant in
     let below : i < length (numbers 32) = omega (arith, c.loop-b-test.true, count-numbers 32) in
-    let line = block-is vs i c.block_at.result.now c.block_from.result c.loop-b-test.true c.block_at.ensures.is c.block_from.ensures in
+    let line = block-is vs i c.block_at.result.now c.block_from-start.result c.loop-b-test.true c.block_at.ensures.is c.block_from-start.ensures in
     let front = rw line at c.in_err-write_changed.ensures.front in
     Writes-fault _ failed.0 _ _ _ _ _ failed.1
     (Wrote-fault (block_line vs) (numbers 32) _ (drop (i + 1) (numbers 32)) i _ _ _ wrote (split-item (numbers 32) i i below (number-at 32 i c.loop-b-test.true)) front)
@@ -29,7 +29,7 @@ loop-b-preserved g c =
     let vs = c.args.memory.now in
     let i = c.loop-b.b in
     let below : i < length (numbers 32) = omega (arith, c.loop-b-test.true, count-numbers 32) in
-    let line = block-is vs i c.block_at.result.now c.block_from.result c.loop-b-test.true c.block_at.ensures.is c.block_from.ensures in
+    let line = block-is vs i c.block_at.result.now c.block_from-start.result c.loop-b-test.true c.block_at.ensures.is c.block_from-start.ensures in
     let more = c.in_ok-write_changed.ensures in
     let written = rw line at more.appends in
     rw (take-item (numbers 32) i i below (number-at 32 i c.loop-b-test.true))

@@ -18,7 +18,7 @@ returns-in_err-write_changed g c =
     let i = c.loop-i.i in
     let wrote = c.loop-i.invariant in
     let below : i < length (numbers 16) = omega (arith, c.loop-i-test.true, count-numbers 16) in
-    let line = vector-is vs i c.from-number.result c.vector.result.now c.block_from.result c.from-number.ensures c.vector.ensures c.block_from.ensures in
+    let line = vector-is vs i c.from-number.result c.vector.result.now c.block_from-start.result c.from-number.ensures c.vector.ensures c.block_from-start.ensures in
     let front = rw line at c.in_err-write_changed.ensures.front in
     Writes-fault _ failed.0 _ _ _ _ _ failed.1
     (Wrote-fault (vector_line vs) (numbers 16) _ (drop (i + 1) (numbers 16)) i _ _ _ wrote (split-item (numbers 16) i i below (number-at 16 i c.loop-i-test.true)) front)
@@ -29,7 +29,7 @@ loop-i-preserved g c =
     let vs = c.args.machine.now.vectors in
     let i = c.loop-i.i in
     let below : i < length (numbers 16) = omega (arith, c.loop-i-test.true, count-numbers 16) in
-    let line = vector-is vs i c.from-number.result c.vector.result.now c.block_from.result c.from-number.ensures c.vector.ensures c.block_from.ensures in
+    let line = vector-is vs i c.from-number.result c.vector.result.now c.block_from-start.result c.from-number.ensures c.vector.ensures c.block_from-start.ensures in
     let more = c.in_ok-write_changed.ensures in
     let written = rw line at more.appends in
     rw (take-item (numbers 16) i i below (number-at 16 i c.loop-i-test.true))
