@@ -1,5 +1,5 @@
 -- The names of the profiles that have every bit, one after another.
-use Rattle.std.proofs.Common.{◌≡◌, ℕ, ◌+◌, ◌*◌, ◌<◌, ◌≤◌, Bool, true, false, Bor, List, [], ◌∷◌, ◌++◌, length, get_or, take, ap, sym, ◌∙◌, refl, arith, length-append, append_assoc, nat_eq, nat_le, zero, suc, Option, Some, None}
+use Rattle.std.proofs.Common.{◌≡◌, ℕ, ◌+◌, ◌*◌, ◌<◌, ◌≤◌, Bool, true, false, Bor, List, [], ◌∷◌, ◌++◌, length, get_or, take, ap, sym, ◌∙◌, refl, arith, append_assoc, nat_eq, nat_le, zero, suc, Some, None}
 use Rattle.std.specs.Prelude.{All, ◌&&◌, codes, flat_map, map, if◌then◌else◌}
 use Rattle.std.proofs.lemmas.Bool.{and_parts}
 use Rattle.std.proofs.lemmas.Bool.Decides.{nat_tests}
@@ -7,11 +7,11 @@ use Rattle.std.proofs.Math.Seq.{take-length}
 use Rattle.std.proofs.lemmas.List.{append-nil, get_or_default, take_more}
 use Rattle.std.proofs.lemmas.List.Elements.{All-cons, All-get_or, All-nil}
 use Rattle.std.proofs.lemmas.Grind.{flat_map-append}
-use Rattle.x86_uarch.specs.Profiles.{microarchitectures, profile_of, profiles}
+use Rattle.x86_uarch.specs.Profiles.{microarchitectures, profiles}
 use Rattle.vex_check.specs.declared.needs.First.{First}
 use Rattle.vex_check.specs.declared.needs.RunFault.{RunFault}
 use Rattle.vex_check.specs.Needs.{all_needed, fault, firsts, run}
-use Rattle.vex_tool.specs.LeastLines.{accepted_by, fault_line, least_by, least_lines, need_line, or_dash, profile_word, profiles_line}
+use Rattle.vex_tool.specs.LeastLines.{fault_line, least_by, least_lines, need_line, or_dash, profile_word, profiles_line}
 
 -- an element of a list, whatever stands for one past its end
 pub at-default : {A : Type 0} (items : List A) (i : ℕ) (d : A) → i < length items → get_or items i d ≡ get_or items i (get_or items i d)

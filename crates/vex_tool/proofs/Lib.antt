@@ -4,6 +4,7 @@ pub mod LineMachineLemmas
 pub mod FeedLemmas
 pub mod WrittenLines
 pub mod LeastLinesLemmas
+pub mod EmulateLinesLemmas
 pub mod SweepLinesLemmas
 pub mod NoteLinesLemmas
 pub mod RunLemmas

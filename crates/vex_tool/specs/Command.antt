@@ -3,7 +3,7 @@ use Rattle.std.specs.Prelude.{ℕ, ◌&&◌, nat_le, List, [], ◌∷◌, codes,
 use Rattle.std.specs.Str.Parse.{digits_value}
 use Rattle.x86_uarch.specs.Profiles.{profile_of}
 use Rattle.vex_tool.specs.declared.command.Command.{Command}
-use Rattle.vex_tool.specs.declared.command.Command.TheVariants.{Recode, Sweep, Notes, Asm, Least, Make}
+use Rattle.vex_tool.specs.declared.command.Command.TheVariants.{Recode, Sweep, Notes, Asm, Emulate, Least, Make}
 
 -- a number of spellings to make, where a word writes it
 abbrev pub count_written : List ℕ → ℕ → Option ℕ
@@ -19,6 +19,7 @@ count_made (Recode settings) = None
 count_made (Sweep settings) = None
 count_made (Notes settings) = None
 count_made (Asm settings) = None
+count_made (Emulate settings) = None
 count_made Least = None
 count_made (Make count) = Some count
 
@@ -29,6 +30,7 @@ command_of_two verb name =
     else if bytes_eq verb (codes "sweep") then option_map Sweep (profile_of name)
     else if bytes_eq verb (codes "notes") then option_map Notes (profile_of name)
     else if bytes_eq verb (codes "asm") then option_map Asm (profile_of name)
+    else if bytes_eq verb (codes "emulate") then option_map Emulate (profile_of name)
     else if bytes_eq verb (codes "make") then option_map Make (count_of name)
     else None
 
@@ -36,8 +38,8 @@ command_of_two verb name =
 abbrev pub command_of_one : List ℕ → Option Command
 command_of_one verb = if bytes_eq verb (codes "least") then Some Least else None
 
--- the command that the words ask for: `recode P`, `sweep P`, `notes P` or `asm P`, where P names a profile, `least`, or
--- `make N`, where N writes a number
+-- the command that the words ask for: `recode P`, `sweep P`, `notes P`, `asm P` or `emulate P`, where P names a profile,
+-- `least`, or `make N`, where N writes a number
 abbrev pub command : List (List ℕ) → Option Command
 command (verb ∷ []) = command_of_one verb
 command (verb ∷ name ∷ []) = command_of_two verb name

@@ -11,6 +11,7 @@ pub mod Laws
 pub mod SweepLines
 pub mod NoteLines
 pub mod LeastLines
+pub mod EmulateLines
 pub mod Generator
 pub mod Totals
 pub mod Report

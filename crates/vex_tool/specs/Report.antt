@@ -5,7 +5,7 @@ use Rattle.hex.specs.declared.error.FromHexError.{FromHexError}
 use Rattle.vex_tool.specs.declared.command.Command.{Command}
 use Rattle.vex_tool.specs.Command.{count_made}
 use Rattle.vex_encode.specs.Sweep.{swept}
-use Rattle.vex_tool.specs.declared.command.Command.TheVariants.{Recode, Sweep, Notes, Asm, Least, Make}
+use Rattle.vex_tool.specs.declared.command.Command.TheVariants.{Recode, Sweep, Notes, Asm, Emulate, Least, Make}
 use Rattle.vex_tool.specs.declared.report.LineError.{LineError}
 use Rattle.vex_tool.specs.declared.report.LineError.TheVariants.{LongLine, BadHex}
 use Rattle.vex_tool.specs.ErrorLine.{error_line}
@@ -14,6 +14,7 @@ use Rattle.vex_tool.specs.ResultLine.{result_line}
 use Rattle.vex_tool.specs.SweepLines.{sweep_lines}
 use Rattle.vex_tool.specs.NoteLines.{note_lines}
 use Rattle.vex_tool.specs.AsmLine.{asm_line}
+use Rattle.vex_tool.specs.EmulateLines.{emulate_lines}
 use Rattle.vex_tool.specs.LeastLines.{least_lines}
 use Rattle.vex_tool.specs.Generator.{made}
 
@@ -46,6 +47,7 @@ code_report (Recode settings) (Ok bytes) = result_line settings bytes
 code_report (Sweep settings) (Ok bytes) = sweep_lines (swept settings bytes)
 code_report (Notes settings) (Ok bytes) = note_lines settings bytes
 code_report (Asm settings) (Ok text) = asm_line settings text
+code_report (Emulate settings) (Ok bytes) = emulate_lines settings bytes
 code_report Least (Ok bytes) = least_lines bytes
 code_report (Make count) (Ok bytes) = []
 
@@ -74,6 +76,7 @@ MayLackMemory (Recode settings) line = ⊥
 MayLackMemory (Sweep settings) line = IsOk (code line)
 MayLackMemory (Notes settings) line = ⊥
 MayLackMemory (Asm settings) line = ⊥
+MayLackMemory (Emulate settings) line = ⊥
 MayLackMemory Least line = ⊥
 MayLackMemory (Make count) line = ⊥
 
@@ -83,6 +86,7 @@ takes_memory (Recode settings) = false
 takes_memory (Sweep settings) = true
 takes_memory (Notes settings) = false
 takes_memory (Asm settings) = false
+takes_memory (Emulate settings) = false
 takes_memory Least = false
 takes_memory (Make count) = false
 

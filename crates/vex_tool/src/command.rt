@@ -19,6 +19,8 @@ pub enum Command {
     Notes(InstDecoder),
     /// Write the canonical bytes of the meaning that each line writes, under these settings.
     Asm(InstDecoder),
+    /// Run the code of each line, under these settings, and write what it changes.
+    Emulate(InstDecoder),
     /// Write what the run of instructions of each line needs, and the profiles that have it.
     Least,
     /// Generate so many spellings, 1 to 1,000,000, and write a line that sums up how they are recoded.
@@ -54,8 +56,8 @@ fn count_of(word: &str) -> Option<u32>
 }
 
 impl Command {
-    /// The command that the words ask for, `None` where they aren't `recode`, `sweep`,
-    /// `notes` or `asm` and the name of a profile, `least`, or `make` and a number. Whether a word was refused plays no part.
+    /// The command that the words ask for, `None` where they aren't `recode`, `sweep`, `notes`, `asm` or `emulate` and the
+    /// name of a profile, `least`, or `make` and a number. Whether a word was refused plays no part.
     pub fn of(words: &Words) -> Option<Command>
         ensures { result ≡ command words.now.0 }
     {
@@ -85,6 +87,7 @@ impl Command {
             "sweep" => profile(name).map(Command::Sweep),
             "notes" => profile(name).map(Command::Notes),
             "asm" => profile(name).map(Command::Asm),
+            "emulate" => profile(name).map(Command::Emulate),
             "make" => count_of(name).map(Command::Make),
             _ => None,
         }
@@ -99,6 +102,7 @@ impl Command {
             | Command::Sweep(_)
             | Command::Notes(_)
             | Command::Asm(_)
+            | Command::Emulate(_)
             | Command::Least => None,
             Command::Make(count) => Some(*count),
         }

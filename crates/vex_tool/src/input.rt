@@ -7,7 +7,7 @@ ghost use Rattle.vex_tool.specs.Run.{Ran};
 use crate::command::Command;
 use crate::ends::{Failed, PIECE, Sink, Source};
 use crate::line_buffer::{LineBuffer, feed, finish};
-use crate::report::CodeRoom;
+use crate::report::LineRoom;
 use crate::status::Status;
 use std::alloc::Global;
 
@@ -36,7 +36,7 @@ pub fn answer_input<S: Source, K: Sink>(
         (record { left = S.left source.new; given = S.given source.new; source_faults = S.faults source.new; text = K.text sink.new; sink_faults = K.faults sink.new }) }
 {
     let mut line = LineBuffer::new();
-    let mut code = CodeRoom::new();
+    let mut lent = LineRoom::new();
     let mut buffer = [0u8; PIECE];
     let mut room = INPUT_LIMIT;
     loop {
@@ -44,14 +44,14 @@ pub fn answer_input<S: Source, K: Sink>(
         match source.read(piece) {
             Err(Failed) => return Status::ReadFault,
             Ok(0) => {
-                return match finish(alloc, command, &line, &mut code, sink) {
+                return match finish(alloc, command, &line, &mut lent, sink) {
                     Ok(()) => Status::Done,
                     Err(halt) => halt.status(),
                 };
             }
             Ok(_) if room == 0 => return Status::TooLong,
             Ok(n) => {
-                if let Err(halt) = feed(alloc, command, &mut line, &piece[..n], &mut code, sink) {
+                if let Err(halt) = feed(alloc, command, &mut line, &piece[..n], &mut lent, sink) {
                     return halt.status();
                 }
                 room -= n;

@@ -8,7 +8,7 @@ ghost use Rattle.vex_tool.specs.LineMachine.{pushed, stepped, line_after, kept_r
 use crate::command::Command;
 use crate::ends::Sink;
 use crate::halt::Halt;
-use crate::report::{CodeRoom, LineError, MAX_LINE, write_error, write_report};
+use crate::report::{LineError, LineRoom, MAX_LINE, write_error, write_report};
 use arrayvec::ArrayVec;
 use std::alloc::Global;
 use std::marker::Model;
@@ -84,7 +84,7 @@ fn answer<K: Sink>(
     alloc: Global,
     command: &Command,
     line: &LineBuffer,
-    room: &mut CodeRoom,
+    room: &mut LineRoom,
     sink: &mut K,
 ) -> Result<(), Halt>
     ensures { Answers (λ written. (written ≡ []) × IsSomeAnd line.now (MayLackMemory command.now)) result
@@ -106,7 +106,7 @@ fn take_byte<K: Sink>(
     command: &Command,
     line: &mut LineBuffer,
     byte: u8,
-    room: &mut CodeRoom,
+    room: &mut LineRoom,
     sink: &mut K,
 ) -> Result<(), Halt>
     ensures kept { OnOk result (line.new ≡ stepped line.old byte) }
@@ -129,7 +129,7 @@ pub fn feed<K: Sink>(
     command: &Command,
     line: &mut LineBuffer,
     piece: &[u8],
-    room: &mut CodeRoom,
+    room: &mut LineRoom,
     sink: &mut K,
 ) -> Result<(), Halt>
     ensures kept { OnOk result (line.new ≡ line_after line.old piece.now) }
@@ -148,7 +148,7 @@ pub fn finish<K: Sink>(
     alloc: Global,
     command: &Command,
     line: &LineBuffer,
-    room: &mut CodeRoom,
+    room: &mut LineRoom,
     sink: &mut K,
 ) -> Result<(), Halt>
     ensures { Answers (λ written. (written ≡ []) × (line.now ≢ Some []) × IsSomeAnd line.now (MayLackMemory command.now)) result

@@ -1,5 +1,5 @@
 //! Lines of code and what `recode` answers, one for each rule of decoding and encoding, texts and what `asm` answers, and
-//! runs of instructions and what `least` answers.
+//! runs of instructions and what `least` and `emulate` answer.
 
 use crate::laws::{assembled_lines, result_line_assembles};
 use crate::memory_ends::{MemSink, MemSource};
@@ -123,6 +123,61 @@ static RUNS: [(&[u8], &[u8]); 8] = [
     (b"c5f", b"error BadHex\n"),
 ];
 
+/// A profile, a line of code, and what `emulate` answers: what it changes of the vectors and of the memory, in this order,
+/// how it ends, and that it starts anew for each line.
+#[rattlefmt::skip]
+static MACHINES: [(&str, &[u8], &[u8]); 15] = [
+    ("default", b"C5 F1 FC C2",
+        b"y0 30323436383a3c3e40424446484a4c4e00000000000000000000000000000000\n\
+        end 1\n"),
+    ("default", b"C5 FE 7F 06",
+        b"m192 000102030405060708090a0b0c0d0e0f101112131415161718191a1b1c1d1e1f\n\
+        end 1\n"),
+    ("default", b"C5 FA 6F 85 50 03 00 00",
+        b"y0 f0f1f2f3f4f5f6f7f8f9fafbfcfdfeff00000000000000000000000000000000\n\
+        end 1\n"),
+    ("default", b"C5 FA 6F 85 51 03 00 00", b"stopped 0 BadAddress\n"),
+    ("default", b"C5 FA 58 C1", b"stopped 0 Unsupported\n"),
+    ("default", b"\n", b"end 0\n"),
+    ("default", b"C5 FD DB C0", b"end 1\n"),
+    ("default", b"C5 FD DB C0 33", b"stopped 4 Outside\n"),
+    ("default", b"C5 FD DB C0 C5 FD DB C0 C5 FA 6F 05 00 00 00 00", b"stopped 8 Unsupported\n"),
+    ("minimal", b"C5 F8 77", b"stopped 0 InvalidOpcode\n"),
+    ("default", b"C4 41 29 EF D2 C5 F1 EF C9",
+        b"y1 0000000000000000000000000000000000000000000000000000000000000000\n\
+        y10 0000000000000000000000000000000000000000000000000000000000000000\n\
+        end 2\n"),
+    ("default", b"C5 FE 7F 45 10",
+        b"m160 a0a1a2a3a4a5a6a7a8a9aaabacadaeaf000102030405060708090a0b0c0d0e0f\n\
+        m192 101112131415161718191a1b1c1d1e1fd0d1d2d3d4d5d6d7d8d9dadbdcdddedf\n\
+        end 1\n"),
+    ("default", b"C5 FE 7F 06\nC5 FE 6F 06",
+        b"m192 000102030405060708090a0b0c0d0e0f101112131415161718191a1b1c1d1e1f\n\
+        end 1\n\
+        y0 c0c1c2c3c4c5c6c7c8c9cacbcccdcecfd0d1d2d3d4d5d6d7d8d9dadbdcdddedf\n\
+        end 1\n"),
+    ("default", b"C5 FE 7F 85 40 03 00 00 C5 F8 77 C5 FA 6F 45",
+        b"y0 000102030405060708090a0b0c0d0e0f00000000000000000000000000000000\n\
+        y1 101112131415161718191a1b1c1d1e1f00000000000000000000000000000000\n\
+        y2 202122232425262728292a2b2c2d2e2f00000000000000000000000000000000\n\
+        y3 303132333435363738393a3b3c3d3e3f00000000000000000000000000000000\n\
+        y4 404142434445464748494a4b4c4d4e4f00000000000000000000000000000000\n\
+        y5 505152535455565758595a5b5c5d5e5f00000000000000000000000000000000\n\
+        y6 606162636465666768696a6b6c6d6e6f00000000000000000000000000000000\n\
+        y7 707172737475767778797a7b7c7d7e7f00000000000000000000000000000000\n\
+        y8 808182838485868788898a8b8c8d8e8f00000000000000000000000000000000\n\
+        y9 909192939495969798999a9b9c9d9e9f00000000000000000000000000000000\n\
+        y10 a0a1a2a3a4a5a6a7a8a9aaabacadaeaf00000000000000000000000000000000\n\
+        y11 b0b1b2b3b4b5b6b7b8b9babbbcbdbebf00000000000000000000000000000000\n\
+        y12 c0c1c2c3c4c5c6c7c8c9cacbcccdcecf00000000000000000000000000000000\n\
+        y13 d0d1d2d3d4d5d6d7d8d9dadbdcdddedf00000000000000000000000000000000\n\
+        y14 e0e1e2e3e4e5e6e7e8e9eaebecedeeef00000000000000000000000000000000\n\
+        y15 f0f1f2f3f4f5f6f7f8f9fafbfcfdfeff00000000000000000000000000000000\n\
+        m992 000102030405060708090a0b0c0d0e0f101112131415161718191a1b1c1d1e1f\n\
+        stopped 11 ExhaustedInput\n"),
+    ("default", b"c5f", b"error BadHex\n"),
+];
+
 // Runs a command under a profile over a line, and wants this text.
 fn check(rt: &impl Abort, alloc: Global, verb: &str, profile: &str, line: &[u8], text: &[u8]) {
     let mut words = Words::new();
@@ -131,7 +186,7 @@ fn check(rt: &impl Abort, alloc: Global, verb: &str, profile: &str, line: &[u8],
         words.push(profile);
     }
     let mut source = MemSource::new(line, 4096, &[]);
-    let mut room = [0u8; 256];
+    let mut room = [0u8; 1280];
     let mut sink = MemSink::new(&mut room, &[]);
     let status = run(alloc, &words, &mut source, &mut sink);
     assert_eq!(rt; status.code(), 0);
@@ -158,5 +213,12 @@ fn texts_are_assembled(rt: HostRuntime) {
 fn runs_need_the_bits_of_their_instructions(rt: HostRuntime) {
     for (line, text) in RUNS.iter() {
         check(&rt, rt.alloc(), "least", "", line, text);
+    }
+}
+
+#[test]
+fn code_changes_the_machine(rt: HostRuntime) {
+    for (profile, line, text) in MACHINES.iter() {
+        check(&rt, rt.alloc(), "emulate", profile, line, text);
     }
 }

@@ -1,6 +1,6 @@
 //! The text of a line of the output, put together in a fixed buffer.
 
-ghost use Rattle.std.specs.Prelude.{◌≡◌, ◌≤◌, ◌+◌, ◌++◌, codes, length, IsUtf8};
+ghost use Rattle.std.specs.Prelude.{◌≡◌, ◌≤◌, ◌+◌, ◌*◌, ◌++◌, codes, length, IsUtf8};
 ghost use Rattle.arrayvec.specs.ArrayString.{array_string_len};
 ghost use Rattle.hex.specs.Hex.{encode_lower};
 ghost use Rattle.x86_operand.specs.Note.{note_text};
@@ -30,14 +30,14 @@ fn push_digits(text: &mut LineText, digits: &[u8])
     }
 }
 
-/// Appends bytes in lower-case hex digits.
-fn push_hex(text: &mut LineText, bytes: &[u8])
-    requires few { length bytes.now ≤ 11 }
-    requires room { array_string_len text.old + 22 ≤ MAX_TEXT }
+/// Appends at most 32 bytes in lower-case hex digits.
+pub fn push_hex(text: &mut LineText, bytes: &[u8])
+    requires few { length bytes.now ≤ 32 }
+    requires room { array_string_len text.old + 2 * length bytes.now ≤ MAX_TEXT }
     ensures written { text.new.bytes ≡ text.old.bytes ++ encode_lower bytes.now }
-    ensures short { array_string_len text.new ≤ array_string_len text.old + 22 }
+    ensures short { array_string_len text.new ≤ array_string_len text.old + 2 * length bytes.now }
 {
-    let mut digits = [0u8; 22];
+    let mut digits = [0u8; 64];
     let digits = &mut digits[..2 * bytes.len()];
     match hex::encode_to_slice(bytes, digits) {
         Ok(()) => push_digits(text, digits),

@@ -8,6 +8,7 @@ ghost use Rattle.vex_tool.specs.Report.{report, code, code_report, taken, digits
 
 use crate::asm_line::write_asm_line;
 use crate::command::Command;
+use crate::emulate_lines::{MEMORY, write_emulated};
 use crate::ends::{Failed, Sink};
 use crate::halt::Halt;
 use crate::least_lines::write_least;
@@ -78,20 +79,22 @@ fn decode_digits(text: &[u8], bytes: &mut [u8]) -> Result<usize, LineError>
     }
 }
 
-/// Room for the digits of a line and for the bytes that they write. It is made once and lent to each line: to make it
-/// anew, by value, would take longer than all else that a line needs.
+/// Room for the digits of a line, for the bytes that they write, and for the memory of a machine that runs them. It is made
+/// once and lent to each line: to make it anew, by value, would take longer than all else that a line needs.
 #[derive(Drop)]
-pub struct CodeRoom {
+pub struct LineRoom {
     digits: ArrayVec<u8, MAX_LINE>,
     bytes: [u8; MAX_CODE],
+    memory: [u8; MEMORY],
 }
 
-impl CodeRoom {
+impl LineRoom {
     /// Room that holds nothing yet.
-    pub fn new() -> CodeRoom {
-        CodeRoom {
+    pub fn new() -> LineRoom {
+        LineRoom {
             digits: ArrayVec::new(),
             bytes: [0; MAX_CODE],
+            memory: [0; MEMORY],
         }
     }
 
@@ -113,11 +116,12 @@ pub fn write_error<K: Sink>(error: LineError, sink: &mut K) -> Result<(), Failed
     sink.write_all(error_text(error.name()).as_str().as_bytes())
 }
 
-// Writes the report of a line of which the command takes these bytes.
+// Writes the report of a line of which the command takes these bytes. The memory is a machine's.
 fn write_code_report<K: Sink>(
     alloc: Global,
     command: &Command,
     bytes: &[u8],
+    memory: &mut [u8; MEMORY],
     sink: &mut K,
 ) -> Result<(), Halt>
     ensures { Answers (λ written. (written ≡ []) × IsTrue (takes_memory command.now)) result
@@ -137,6 +141,10 @@ fn write_code_report<K: Sink>(
             write_asm_line(settings, bytes, sink)?;
             Ok(())
         }
+        Command::Emulate(settings) => {
+            write_emulated(settings, bytes, memory, sink)?;
+            Ok(())
+        }
         Command::Least => {
             write_least(bytes, sink)?;
             Ok(())
@@ -153,7 +161,7 @@ pub fn write_report<K: Sink>(
     alloc: Global,
     command: &Command,
     line: &[u8],
-    room: &mut CodeRoom,
+    room: &mut LineRoom,
     sink: &mut K,
 ) -> Result<(), Halt>
     requires { length line.now ≤ MAX_LINE }
@@ -162,10 +170,10 @@ pub fn write_report<K: Sink>(
 {
     if let Command::Asm(_) = command {
         // It takes the line itself.
-        return write_code_report(alloc, command, line, sink);
+        return write_code_report(alloc, command, line, &mut room.memory, sink);
     }
     match room.decode(line) {
-        Ok(n) => write_code_report(alloc, command, &room.bytes[..n], sink),
+        Ok(n) => write_code_report(alloc, command, &room.bytes[..n], &mut room.memory, sink),
         Err(error) => {
             write_error(error, sink)?;
             Ok(())

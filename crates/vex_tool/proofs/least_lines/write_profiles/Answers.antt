@@ -1,4 +1,4 @@
-use Rattle.std.proofs.Common.{◌≡◌, ◌∙◌, ◌++◌, ap, arith, length, refl, subst}
+use Rattle.std.proofs.Common.{◌≡◌, ◌∙◌, ◌++◌, ap, arith, length, subst}
 use Rattle.std.specs.Prelude.{codes}
 use Rattle.vex_tool.specs.LeastLines.{profiles_line}
 use Rattle.vex_tool.proofs.LeastLinesLemmas.{Gathered, before-room, gathered-line, gathered-room, gathered-step}

@@ -1,6 +1,6 @@
 use Rattle.std.proofs.Common.{◌∙◌}
 use Rattle.vex_tool.proofs.ReportLemmas.{code-short}
-use Rattle.vex_tool.proofs.report.CodeRoom.decode.Goals as goal
+use Rattle.vex_tool.proofs.report.LineRoom.decode.Goals as goal
 
 pub returns-clause-decoded : goal.returns-clause-decoded
 returns-clause-decoded c =

@@ -1,0 +1,162 @@
+//! What a run of code changes in a machine, which starts anew for each line.
+
+ghost use Rattle.std.specs.Prelude.{◌≡◌, ◌≤◌, ◌+◌, ◌++◌, codes, decimal, length};
+ghost use Rattle.std.specs.Simd.Lanes.{chunk};
+ghost use Rattle.hex.specs.Hex.{encode_lower};
+ghost use Rattle.vex_tool.specs.EmulateLines.{block_lines, changed_line, counting, emulate_lines, ran_line, vector_lines};
+ghost use Rattle.vex_tool.specs.EmulateLines.{start};
+ghost use Rattle.vex_tool.specs.Ends.{Writes};
+
+use crate::ends::{Failed, Sink};
+use crate::line_text::{LineText, push_hex};
+use vex_asm::append_number;
+use vex_emul::{Halt, Machine, run_code};
+use x86_settings::InstDecoder;
+
+/// How many bytes the memory of the machine has.
+pub const MEMORY: usize = 1024;
+
+/// How many bytes a vector has, and a block of the memory.
+const BLOCK: usize = 32;
+
+// Fills the bytes, which then count up from a number, modulo 256.
+fn count_up(first: usize, bytes: &mut [u8])
+    requires { first + length bytes.old ≤ 2048 }
+    ensures { bytes.new ≡ counting first (length bytes.old) }
+{
+    for i in 0..bytes.len() {
+        bytes[i] = ((first + i) % 256) as u8;
+    }
+}
+
+// A vector, or a block of the memory, at the start, by what it begins with.
+fn block_from(first: usize) -> [u8; BLOCK]
+    requires { first ≤ 1024 }
+    ensures { result ≡ counting first 32 }
+{
+    let mut bytes = [0; BLOCK];
+    count_up(first, &mut bytes);
+    bytes
+}
+
+// The machine at the start of a line, with this memory.
+fn machine_at_start(memory: &mut [u8; MEMORY]) -> Machine<'_>
+    ensures { result ≡ start }
+{
+    count_up(0, memory);
+    let mut machine = Machine::new(memory);
+    for i in 0..16 {
+        machine.set_vector(i, &block_from(16 * usize::from(i)));
+        machine.set_q(i, 32 * u64::from(i));
+    }
+    machine
+}
+
+// The line of some bytes: a letter and a number, which name them, and the bytes in hex digits.
+fn changed_text(letter: &str, number: usize, bytes: &[u8]) -> LineText
+    requires letter { length letter.now ≤ 1 }
+    requires bytes { length bytes.now ≤ 32 }
+    ensures { result.bytes ≡ letter.now ++ decimal number ++ codes " " ++ encode_lower bytes.now ++ codes "\n" }
+{
+    let mut text = LineText::new();
+    text.push_str(letter);
+    append_number(&mut text, number);
+    text.push_str(" ");
+    push_hex(&mut text, bytes);
+    text.push_str("\n");
+    text
+}
+
+// Writes the line of some bytes, in one write, unless they are still those of the start.
+fn write_changed<K: Sink>(
+    letter: &str,
+    number: usize,
+    bytes: &[u8],
+    first: &[u8],
+    sink: &mut K,
+) -> Result<(), Failed>
+    requires letter { length letter.now ≤ 1 }
+    requires bytes { length bytes.now ≤ 32 }
+    ensures { Writes result (K.text sink.old) (K.text sink.new) (K.faults sink.old) (K.faults sink.new)
+        (changed_line letter.now number bytes.now first.now) }
+{
+    if bytes == first {
+        return Ok(());
+    }
+    sink.write_all(changed_text(letter, number, bytes).as_str().as_bytes())
+}
+
+// Writes the lines of the vectors that changed.
+fn write_vectors<K: Sink>(machine: &Machine<'_>, sink: &mut K) -> Result<(), Failed>
+    ensures { Writes result (K.text sink.old) (K.text sink.new) (K.faults sink.old) (K.faults sink.new)
+        (vector_lines machine.now.vectors) }
+{
+    for i in 0..16 {
+        let number = usize::from(i);
+        let start = block_from(16 * number);
+        write_changed("y", number, machine.vector(i), &start, sink)?;
+    }
+    Ok(())
+}
+
+// The block of the memory at a place.
+fn block_at(memory: &[u8], place: usize) -> &[u8]
+    requires { place + 32 ≤ length memory.now }
+    ensures is { result.now ≡ chunk place 32 memory.now }
+    ensures long { length result.now ≡ 32 }
+{
+    &memory[place..place + BLOCK]
+}
+
+// Writes the lines of the blocks of the memory that changed.
+fn write_blocks<K: Sink>(memory: &[u8], sink: &mut K) -> Result<(), Failed>
+    requires { length memory.now ≡ 1024 }
+    ensures { Writes result (K.text sink.old) (K.text sink.new) (K.faults sink.old) (K.faults sink.new)
+        (block_lines memory.now) }
+{
+    for b in 0..32 {
+        let place = BLOCK * b;
+        let start = block_from(place);
+        write_changed("m", place, block_at(memory, place), &start, sink)?;
+    }
+    Ok(())
+}
+
+// The line of the end of a run.
+fn ran_text(answer: &Result<usize, Halt>) -> LineText
+    ensures { result.bytes ≡ ran_line answer.now }
+{
+    let mut text = LineText::new();
+    match answer {
+        Ok(count) => {
+            text.push_str("end ");
+            append_number(&mut text, *count);
+        }
+        Err(halt) => {
+            text.push_str("stopped ");
+            append_number(&mut text, halt.place);
+            text.push_str(" ");
+            text.push_str(halt.cause.name());
+        }
+    }
+    text.push_str("\n");
+    text
+}
+
+/// Runs the code under settings on a machine at the start, and writes a line for each vector and each block of the memory
+/// that it changed, and one for the end, in one write each. `Failed` where a write of the sink fails.
+pub fn write_emulated<K: Sink>(
+    settings: &InstDecoder,
+    code: &[u8],
+    memory: &mut [u8; MEMORY],
+    sink: &mut K,
+) -> Result<(), Failed>
+    ensures { Writes result (K.text sink.old) (K.text sink.new) (K.faults sink.old) (K.faults sink.new)
+        (emulate_lines settings.now code.now) }
+{
+    let mut machine = machine_at_start(memory);
+    let answer = run_code(&mut machine, settings, code);
+    write_vectors(&machine, sink)?;
+    write_blocks(machine.memory(), sink)?;
+    sink.write_all(ran_text(&answer).as_str().as_bytes())
+}
