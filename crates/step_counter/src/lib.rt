@@ -1,4 +1,38 @@
 //! A counter of steps for contracts: it is told by clauses alone, takes no bytes, and a step runs no code.
+//!
+//! A function whose contract bounds its steps takes the counter last, for any ledger. A caller that counts nothing makes a
+//! counter of its own.
+//!
+//! ```
+//! use step_counter::Steps;
+//! use std::marker::Brand;
+//! use std::sync::ledger::{Blank, Ledger};
+//!
+//! // Takes as many steps as there are bytes, and its contract says so.
+//! fn sum<L: Ledger>(bytes: &[u8], steps: &mut Steps<L>) -> u64
+//!     ensures { steps.new ≡ steps.old + length bytes.now }
+//! {
+//!     let mut sum: u64 = 0;
+//!     for byte in bytes {
+//!         steps.tick();
+//!         sum = sum.wrapping_add(u64::from(*byte));
+//!     }
+//!     sum
+//! }
+//!
+//! // What a caller does that counts nothing.
+//! fn sum_alone<L: Ledger>(bytes: &[u8], blank: Blank) -> u64
+//!     requires name { blank.name ≡ L.name }
+//!     requires parts { blank.parts ≡ L.parts }
+//!     requires some { 0 < blank.parts }
+//! {
+//!     sum(bytes, &mut Steps::<L>::new(blank))
+//! }
+//!
+//! assert_eq!(rt; sum_alone::<Brand>(b"abc", Blank::new(1)), 294);
+//! // A counter takes no room.
+//! assert_eq!(rt; size_of::<Steps<Brand>>(), 0);
+//! ```
 #![tactic(auto)]
 
 ghost use Rattle.std.specs.Prelude.{◌≡◌, ℕ, ◌+◌, ◌<◌};
@@ -7,7 +41,7 @@ use std::marker::Model;
 use std::sync::ledger::{Blank, Book, Ledger, Share};
 
 #[cfg(test)]
-mod tests;
+mod example;
 
 /// How many steps were taken. What a step is, the function says that takes the counter.
 ///

@@ -1,4 +1,15 @@
 //! The text of an instruction's meaning, both ways: `VADDPS x0 x1 x2 0`.
+//!
+//! ```
+//! use vex_asm::{AsmError, assemble};
+//!
+//! let sum = assemble(b"VADDPS x0 x1 x2 0").map_err(|_| "the text of a meaning")?;
+//! assert_eq!(rt; sum.as_slice(), [0xC5, 0xF0, 0x58, 0xC2].as_slice());
+//! assert_eq!(rt;
+//!     assemble(b"VADDPS x0 x1 x99 0").err(),
+//!     Some(AsmError::BadText)
+//! );
+//! ```
 #![tactic(auto)]
 
 mod appender;
@@ -6,6 +17,8 @@ mod assembler;
 #[cfg(test)]
 mod assembler_tests;
 mod error;
+#[cfg(test)]
+mod example;
 mod laws;
 mod number;
 mod operand;

@@ -1,8 +1,24 @@
 //! The shortest spelling of an instruction.
+//!
+//! `recode` decodes and answers the canonical bytes besides, `encode_shortest` starts from the instruction, and `sweep` goes
+//! over a run of instructions.
+//!
+//! ```
+//! use vex_encode::recode;
+//! use x86_settings::InstDecoder;
+//!
+//! // VADDPS x0, x1, x2 with a prefix of three bytes where two are enough.
+//! let bytes = [0xC4, 0xE1, 0x70, 0x58, 0xC2];
+//! let (sum, shortest) = recode(&InstDecoder::default(), &bytes).map_err(|_| "a spelling")?;
+//! assert_eq!(rt; sum.len(), 5);
+//! assert_eq!(rt; shortest.as_slice(), [0xC5, 0xF0, 0x58, 0xC2].as_slice());
+//! ```
 #![tactic(auto)]
 
 mod assembly;
 mod encode;
+#[cfg(test)]
+mod example;
 mod excluded;
 mod fits;
 mod kind;

@@ -1,4 +1,23 @@
 //! The program: canonical bytes of VEX instructions, line by line.
+//!
+//! `run` is the whole program over any source and any sink; `main` hands it the real ones.
+//!
+//! ```
+//! let mut words = Words::new();
+//! words.push("recode");
+//! words.push("default");
+//! let mut source = MemSource::new(b"C4 E1 70 58 C2\n", 16, &[]);
+//! let mut room = [0u8; 64];
+//! let mut sink = MemSink::new(&mut room, &[]);
+//! assert_eq!(rt;
+//!     run(rt.alloc(), &words, &mut source, &mut sink),
+//!     Status::Done
+//! );
+//! assert_eq!(rt;
+//!     sink.written(),
+//!     b"5 VADDPS x0 x1 x2 0 c5f058c2\n".as_slice()
+//! );
+//! ```
 #![tactic(auto)]
 
 ghost use Rattle.std.specs.Prelude.{◌≡◌, ◌+◌, ◌<◌, ◌≤◌, ◌↔◌, ◌⊎◌, ◌∷◌, ◌++◌, true, length, take, [], Some, IfSome, IsSome, IsSomeAnd, IsNone, IsTrue, IsFalse, IsUtf8};
@@ -28,6 +47,8 @@ mod command;
 mod edge_tests;
 mod emulate_lines;
 mod ends;
+#[cfg(test)]
+mod example;
 mod generator;
 mod halt;
 mod input;

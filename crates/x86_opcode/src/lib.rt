@@ -1,7 +1,20 @@
 //! The names of x86 opcodes that the decoder and its settings speak of: the types, written by tools/opcodes.py.
+//!
+//! Each opcode has a name, a number, and the condition under which settings permit it.
+//!
+//! ```
+//! use x86_opcode::{Condition, Opcode};
+//!
+//! let opcode = Opcode::named("RORX").ok_or("a name")?;
+//! assert!(rt; opcode.is(Opcode::RORX));
+//! assert_eq!(rt; opcode.name(), "RORX");
+//! assert_eq!(rt; opcode.condition(), Condition::Bmi2);
+//! ```
 #![tactic(auto)]
 
 mod condition;
+#[cfg(test)]
+mod example;
 mod float;
 mod fused;
 mod integer;

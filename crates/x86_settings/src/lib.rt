@@ -1,4 +1,13 @@
 //! The settings of the decoder: which extensions of x86 it knows, one bit for each.
+//!
+//! ```
+//! use x86_settings::InstDecoder;
+//!
+//! let settings = InstDecoder::minimal().with_avx().with_bmi2();
+//! assert!(rt; settings.avx() && settings.bmi2());
+//! assert!(rt; !settings.avx2());
+//! assert!(rt; InstDecoder::default().avx2());
+//! ```
 #![tactic(auto)]
 
 mod amd;
@@ -8,6 +17,8 @@ mod avx512;
 mod cache;
 mod crypto;
 mod decoder;
+#[cfg(test)]
+mod example;
 mod integer;
 mod laws;
 mod quirks;

@@ -1,4 +1,12 @@
 //! The settings of microarchitectures, by maker and by name.
+//!
+//! ```
+//! use x86_uarch::{intel, profile};
+//!
+//! let haswell = profile("haswell").ok_or("a profile")?;
+//! assert!(rt; haswell == intel::haswell());
+//! assert!(rt; haswell.avx2() && !haswell.avx512_f());
+//! ```
 #![tactic(auto)]
 
 ghost use Rattle.std.specs.Prelude.{◌≡◌, map};
@@ -10,6 +18,8 @@ ghost use Rattle.x86_uarch.specs.Profiles.{microarchitectures, profile_of};
 use x86_settings::InstDecoder;
 
 pub mod amd;
+#[cfg(test)]
+mod example;
 pub mod intel;
 
 /// The profile of that name: the functions of `amd` and `intel` by their names, and `default` and

@@ -1,0 +1,23 @@
+//! The example at the head of the crate.
+
+use crate::{first_spelling, spelling_after};
+use std::test::Fail;
+use vex_decode::Decoder;
+use x86_settings::InstDecoder;
+
+#[test]
+fn spellings_come_one_after_another(rt: HostRuntime) -> Result<(), Fail> {
+    let decoder = InstDecoder::default();
+    let sum = decoder
+        .decode_slice(&[0xC5, 0xF0, 0x58, 0xC2])
+        .map_err(|_| "a spelling")?;
+    let first = first_spelling(&sum).ok_or("there are five")?;
+    assert_eq!(rt; first.as_slice(), [0xC4, 0xA1, 0x70, 0x58, 0xC2].as_slice());
+    let second = spelling_after(&sum, first.as_slice()).ok_or("there are five")?;
+    assert_eq!(rt;
+        second.as_slice(),
+        [0xC4, 0xA1, 0xF0, 0x58, 0xC2].as_slice()
+    );
+    assert!(rt; spelling_after(&sum, &[0xC5, 0xF0, 0x58, 0xC2]).is_none());
+    Ok(())
+}
