@@ -1,7 +1,7 @@
 //! A counter of steps for contracts: it is told by clauses alone, takes no bytes, and a step runs no code.
 //!
-//! A function whose contract bounds its steps takes the counter last, for any ledger. A caller that counts nothing makes a
-//! counter of its own.
+//! A function whose contract bounds its steps takes the counter last, for any ledger. A caller that counts nothing
+//! makes a counter of its own.
 //!
 //! ```
 //! use step_counter::Steps;

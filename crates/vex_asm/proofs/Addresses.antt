@@ -1,5 +1,7 @@
 -- Addresses: what is read is what is printed.
-use Rattle.std.proofs.Common.{◌≡◌, ◌≤◌, ◌<◌, ◌==◌, ◌&&◌, ◌++◌, ℕ, suc, ℤ, pos, negsuc, neg_ℤ, Bool, true, false, not, inl, inr, List, [], ◌∷◌, Option, Some, None, refl, sym, ap, ◌∙◌, arith, decimal, codes, bytes_eq, IfSome, ◌≤ℤ◌, int_le}
+use Rattle.std.proofs.Common.{◌≡◌, ◌≤◌, ◌<◌, ◌==◌, ◌&&◌, ◌++◌, ℕ, suc, ℤ, pos, negsuc, neg_ℤ, Bool, true, false, not}
+use Rattle.std.proofs.Common.{inl, inr, List, [], ◌∷◌, Option, Some, None, refl, sym, ap, ◌∙◌, arith, decimal, codes}
+use Rattle.std.proofs.Common.{bytes_eq, IfSome, ◌≤ℤ◌, int_le}
 use Rattle.std.proofs.lemmas.Bool.{and_parts, eqb-true, eq-eqb}
 use Rattle.std.proofs.lemmas.Option.{same_Some, cond_some}
 use Rattle.std.proofs.lemmas.Slice.Eq.{bytes_eq-Decides}
@@ -18,18 +20,21 @@ use Rattle.x86_operand.specs.Range.{IsRegister, IsIndex, IsAddress}
 use Rattle.vex_asm.specs.Text.{register_text_in, register_text, base_text, index_text, address_text, is_blank}
 use Rattle.vex_asm.specs.Parsed.{scaled_of, index_of, cut, displacement_of, signed_byte_of, address_of}
 use Rattle.vex_asm.proofs.Numbers.{own, both, bind_found, map_found, chosen, signed_of-decimal, decimal-signed_of}
-use Rattle.vex_asm.proofs.Registers.{byte_of-decimal, decimal-byte_of, register_of-text, text-register_of, base_of-text, text-base_of}
+use Rattle.vex_asm.proofs.Registers.{byte_of-decimal, decimal-byte_of, register_of-text, text-register_of, base_of-text}
+use Rattle.vex_asm.proofs.Registers.{text-base_of}
 
 -- whether each byte passes
 abbrev pub each : (ℕ → Bool) → List ℕ → Bool
 each p [] = true
 each p (b ∷ bs) = p b && each p bs
 
-pub each-append : (p : ℕ → Bool) (front bs : List ℕ) → each p front ≡ true → each p bs ≡ true → each p (front ++ bs) ≡ true
+pub each-append : (p : ℕ → Bool) (front bs : List ℕ) → each p front ≡ true → each p bs ≡ true
+    → each p (front ++ bs) ≡ true
 each-append p [] bs h k = k
 each-append p (a ∷ front) bs h k = let parts = and_parts _ _ h in both _ _ parts.0 (each-append p front bs parts.1 k)
 
-pub each-implied : (p q : ℕ → Bool) → ((b : ℕ) → p b ≡ true → q b ≡ true) → (bs : List ℕ) → each p bs ≡ true → each q bs ≡ true
+pub each-implied : (p q : ℕ → Bool) → ((b : ℕ) → p b ≡ true → q b ≡ true) → (bs : List ℕ) → each p bs ≡ true
+    → each q bs ≡ true
 each-implied p q f [] h = refl
 each-implied p q f (b ∷ bs) h = let parts = and_parts _ _ h in both _ _ (f b parts.0) (each-implied p q f bs parts.1)
 
@@ -67,7 +72,8 @@ plain_base None h = refl
 plain_base (Some reg) h = plain_register reg h
 
 -- what is cut at the first byte c
-pub cut_at : (c : ℕ) (front bs : List ℕ) → each (λ b. not (b == c)) front ≡ true → cut c (front ++ c ∷ bs) ≡ Some (front, bs)
+pub cut_at : (c : ℕ) (front bs : List ℕ) → each (λ b. not (b == c)) front ≡ true
+    → cut c (front ++ c ∷ bs) ≡ Some (front, bs)
 unfolding cut
 cut_at c [] bs h = rw (eq-eqb c c refl) refl
 cut_at c (a ∷ front) bs h =
@@ -95,7 +101,8 @@ not_slash b h = (and_parts _ _ (and_parts _ _ h).1).1
 pub not_space : (b : ℕ) → is_plain b ≡ true → not (is_blank b) ≡ true
 not_space b h = (and_parts _ _ h).0
 
-with_star_in : (bank : RegisterBank) (n : ℕ) (bs : List ℕ) → bytes_eq (register_text_in bank n ++ 42 ∷ bs) (codes "-") ≡ false
+with_star_in : (bank : RegisterBank) (n : ℕ) (bs : List ℕ)
+    → bytes_eq (register_text_in bank n ++ 42 ∷ bs) (codes "-") ≡ false
 with_star_in Q n bs = refl
 with_star_in D n bs = refl
 with_star_in X n bs = refl
@@ -106,14 +113,17 @@ with_star_in RIP n bs = refl
 pub star_text : (index : Index) → index_text (Some index) ≡ register_text index.reg ++ 42 ∷ decimal index.scale
 star_text index = rw append_assoc refl
 
-scaled_of-text : (index : Index) → IsIndex index → scaled_of (register_text index.reg ++ 42 ∷ decimal index.scale) ≡ Some index
+scaled_of-text : (index : Index) → IsIndex index
+    → scaled_of (register_text index.reg ++ 42 ∷ decimal index.scale) ≡ Some index
 unfolding scaled_of
 scaled_of-text index h =
     let free = each-implied is_plain _ not_star (register_text index.reg) (plain_register index.reg h.reg) in
-    let split : cut 42 (register_text index.reg ++ 42 ∷ decimal index.scale) ≡ Some (register_text index.reg, decimal index.scale) = cut_at 42 _ _ free in
+    let split : cut 42 (register_text index.reg ++ 42 ∷ decimal index.scale)
+    ≡ Some (register_text index.reg, decimal index.scale) = cut_at 42 _ _ free in
     rw (split, register_of-text index.reg h.reg, byte_of-decimal index.scale h.scale) refl
 
-text-scaled_of : (bs : List ℕ) (index : Index) → scaled_of bs ≡ Some index → (bs ≡ index_text (Some index)) × IsIndex index
+text-scaled_of : (bs : List ℕ) (index : Index) → scaled_of bs ≡ Some index
+    → (bs ≡ index_text (Some index)) × IsIndex index
 unfolding scaled_of
 text-scaled_of bs index e =
     let parts = bind_found _ _ _ e in
@@ -138,12 +148,14 @@ index_of-text (Some index) h =
     rw (star_text index, with_star_in index.reg.bank index.reg.num (decimal index.scale), scaled_of-text index h) refl
 
 -- what an index is read from is its text
-pub text-index_of : (bs : List ℕ) (index : Option Index) → index_of bs ≡ Some index → (bs ≡ index_text index) × IfSome index IsIndex
+pub text-index_of : (bs : List ℕ) (index : Option Index) → index_of bs ≡ Some index
+    → (bs ≡ index_text index) × IfSome index IsIndex
 unfolding index_of
-text-index_of bs index e = elim (chosen (bytes_eq bs (codes "-")) _ _ _ e) as (λ _. (bs ≡ index_text index) × IfSome index IsIndex) [
-  | inl w ↦ let same : None ≡ index = same_Some _ _ w.1 in rw (← same) ((bytes_eq-Decides _ _).0 w.0, tt)
-  | inr w ↦ let found = map_found _ _ _ w.1 in rw (← found.2) (text-scaled_of bs found.0 found.1)
-]
+text-index_of bs index e = elim (chosen (bytes_eq bs (codes "-")) _ _ _ e) as
+    (λ _. (bs ≡ index_text index) × IfSome index IsIndex) [
+      | inl w ↦ let same : None ≡ index = same_Some _ _ w.1 in rw (← same) ((bytes_eq-Decides _ _).0 w.0, tt)
+      | inr w ↦ let found = map_found _ _ _ w.1 in rw (← found.2) (text-scaled_of bs found.0 found.1)
+    ]
 
 -- the ranges of displacements and of signed immediates
 abbrev pub IsDisplacement : ℤ → Type 0
@@ -177,7 +189,8 @@ pub displacement_of-text : (z : ℤ) → IsDisplacement z → displacement_of (s
 unfolding displacement_of
 displacement_of-text z h = rw (signed_of-decimal z (word_small z h), in_word z h) refl
 
-pub text-displacement_of : (bs : List ℕ) (z : ℤ) → displacement_of bs ≡ Some z → (bs ≡ signed_decimal z) × IsDisplacement z
+pub text-displacement_of : (bs : List ℕ) (z : ℤ) → displacement_of bs ≡ Some z
+    → (bs ≡ signed_decimal z) × IsDisplacement z
 unfolding displacement_of
 text-displacement_of bs z e =
     let found = bind_found _ _ _ e in
@@ -196,7 +209,8 @@ text-signed_byte_of bs z e =
     rw (← last.1) (decimal-signed_of bs found.0 found.1, in_byte_found found.0 last.0)
 
 -- the text of an address, from the left
-pub slash_text : (a : Address) → address_text a ≡ base_text a.base ++ 47 ∷ (index_text a.index ++ 47 ∷ signed_decimal a.disp)
+pub slash_text : (a : Address) → address_text a
+    ≡ base_text a.base ++ 47 ∷ (index_text a.index ++ 47 ∷ signed_decimal a.disp)
 slash_text a = rw (append_assoc, append_assoc, append_assoc) refl
 
 index_free : (index : Option Index) → IfSome index IsIndex → each (λ b. not (b == 47)) (index_text index) ≡ true
@@ -211,11 +225,21 @@ pub address_of-text : (a : Address) → IsAddress a → address_of (address_text
 unfolding address_of
 address_of-text a h =
     let back : List ℕ = index_text a.index ++ 47 ∷ signed_decimal a.disp in
-    let first : cut 47 (base_text a.base ++ 47 ∷ (index_text a.index ++ 47 ∷ signed_decimal a.disp)) ≡ Some (base_text a.base, index_text a.index ++ 47 ∷ signed_decimal a.disp)
-    = cut_at 47 (base_text a.base) _ (each-implied is_plain _ not_slash (base_text a.base) (plain_base a.base h.base)) in
-    let second : cut 47 (index_text a.index ++ 47 ∷ signed_decimal a.disp) ≡ Some (index_text a.index, signed_decimal a.disp)
+    let first : cut 47 (base_text a.base ++ 47 ∷ (index_text a.index ++ 47 ∷ signed_decimal a.disp))
+    ≡ Some (base_text a.base, index_text a.index ++ 47 ∷ signed_decimal a.disp)
+    = cut_at 47 (base_text a.base) _ (each-implied is_plain _ not_slash (base_text a.base) (plain_base a.base h.base))
+    in
+    let second : cut 47 (index_text a.index ++ 47 ∷ signed_decimal a.disp)
+    ≡ Some (index_text a.index, signed_decimal a.disp)
     = cut_at 47 (index_text a.index) _ (index_free a.index h.index) in
-    rw (slash_text a, first, second, base_of-text a.base h.base, index_of-text a.index h.index, displacement_of-text a.disp (h.low, h.high)) refl
+    rw (
+      slash_text a,
+      first,
+      second,
+      base_of-text a.base h.base,
+      index_of-text a.index h.index,
+      displacement_of-text a.disp (h.low, h.high),
+    ) refl
 
 -- what an address is read from is its text
 pub text-address_of : (bs : List ℕ) (a : Address) → address_of bs ≡ Some a → (bs ≡ address_text a) × IsAddress a

@@ -1,5 +1,6 @@
 -- The meaning of a line is the one of which its words are the text.
-use Rattle.std.proofs.Common.{◌≡◌, ◌++◌, ℕ, Bool, true, false, List, [], ◌∷◌, take, drop, Option, Some, None, refl, sym, ap, ◌∙◌, subst, codes, take-append-drop}
+use Rattle.std.proofs.Common.{◌≡◌, ◌++◌, ℕ, Bool, true, false, List, [], ◌∷◌, take, drop, Option, Some, None, refl, sym}
+use Rattle.std.proofs.Common.{ap, ◌∙◌, subst, codes, take-append-drop}
 use Rattle.std.specs.Prelude.{bytes_eq, option_map}
 use Rattle.std.proofs.lemmas.Slice.Eq.{bytes_eq-Decides}
 use Rattle.std.proofs.lemmas.Option.{none-some, same_Some}
@@ -50,7 +51,8 @@ unfolding head_of
 head_made w mark o h = by (bytes_eq (take 5 w) (codes "EVEX.")) refl where
   by : (b : Bool) → bytes_eq (take 5 w) (codes "EVEX.") ≡ b → mark_text mark ++ opcode_name o ≡ w
   by true front = behind (opcode_of (drop 5 w)) refl (rw front at h) where
-    behind : (r : Option Opcode) → opcode_of (drop 5 w) ≡ r → option_map (with_mark true) r ≡ Some (mark, o) → mark_text mark ++ opcode_name o ≡ w
+    behind : (r : Option Opcode) → opcode_of (drop 5 w) ≡ r → option_map (with_mark true) r ≡ Some (mark, o)
+        → mark_text mark ++ opcode_name o ≡ w
     behind None found e = absurd (none-some (mark, o) e)
     behind (Some p) found e =
         let pair : (true, p) ≡ (mark, o) = same_Some _ _ e in
@@ -58,7 +60,8 @@ head_made w mark o h = by (bytes_eq (take 5 w) (codes "EVEX.")) refl where
         ∙ ap (λ name. codes "EVEX." ++ name) (opcode_named _ p found)
         ∙ sym (begun w front)
   by false front = behind (opcode_of w) refl (rw front at h) where
-    behind : (r : Option Opcode) → opcode_of w ≡ r → option_map (with_mark false) r ≡ Some (mark, o) → mark_text mark ++ opcode_name o ≡ w
+    behind : (r : Option Opcode) → opcode_of w ≡ r → option_map (with_mark false) r ≡ Some (mark, o)
+        → mark_text mark ++ opcode_name o ≡ w
     behind None found e = absurd (none-some (mark, o) e)
     behind (Some p) found e =
         let pair : (false, p) ≡ (mark, o) = same_Some _ _ e in
@@ -67,7 +70,8 @@ head_made w mark o h = by (bytes_eq (take 5 w) (codes "EVEX.")) refl where
 -- a word that a mark and an opcode make has them
 made_head : (w : List ℕ) (mark : Bool) (o : Opcode) → mark_text mark ++ opcode_name o ≡ w → head_of w ≡ Some (mark, o)
 unfolding head_of
-made_head w true o h = subst (λ w. head_of w ≡ Some (true, o)) h (ap (option_map (with_mark true)) (named_opcode (opcode_name o) o refl))
+made_head w true o h = subst (λ w. head_of w ≡ Some (true, o)) h
+    (ap (option_map (with_mark true)) (named_opcode (opcode_name o) o refl))
 made_head w false o h = by (bytes_eq (take 5 w) (codes "EVEX.")) refl where
   by : (b : Bool) → bytes_eq (take 5 w) (codes "EVEX.") ≡ b → head_of w ≡ Some (false, o)
   by true front = let name_so : opcode_name o ≡ codes "EVEX." ++ drop 5 w = h ∙ begun w front in absurd (marked_dot (drop 5 w) (rw name_so at (name_plain o)))
@@ -80,8 +84,10 @@ meant_so line m h = by (line_parts line) refl h where
   by : (ws : List (List ℕ)) → line_parts line ≡ ws → meaning_of_parts ws ≡ Some m → IsTextOf line m
   by [] split e = absurd (none-some m e)
   by (w ∷ ws) split e = behind (head_of w) (few (rest_of ws)) refl refl e where
-    behind : (head : Option (Bool × Opcode)) (rest : Option (List OperandMeaning × Option ℕ)) → head_of w ≡ head → few (rest_of ws) ≡ rest
-        → (head >>= λ head. rest >>= λ rest. Some (record { evex = head.0; opcode = head.1; operands = rest.0; size = rest.1 })) ≡ Some m
+    behind : (head : Option (Bool × Opcode)) (rest : Option (List OperandMeaning × Option ℕ)) → head_of w ≡ head
+        → few (rest_of ws) ≡ rest
+        → (head >>= λ head. rest >>= λ rest. Some
+        (record { evex = head.0; opcode = head.1; operands = rest.0; size = rest.1 })) ≡ Some m
         → IsTextOf line m
     behind None rest front back e = absurd (none-some m e)
     behind (Some head) None front back e = absurd (none-some m e)

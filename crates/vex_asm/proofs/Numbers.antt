@@ -1,8 +1,11 @@
 -- Numbers: what is read is what is printed.
-use Rattle.std.proofs.Common.{◌≡◌, ◌≢◌, ◌≤◌, ◌<◌, ◌+◌, ◌-◌, ◌*◌, ◌==◌, ◌&&◌, ℕ, zero, suc, ℤ, pos, negsuc, Bool, true, false, cond, ◌⊎◌, inl, inr, List, [], ◌∷◌, Option, Some, None, option_map, length, get_or, nat_lt, refl, sym, ap, ◌∙◌, rules, arith, decimal, lit<}
+use Rattle.std.proofs.Common.{◌≡◌, ◌≢◌, ◌≤◌, ◌<◌, ◌+◌, ◌-◌, ◌*◌, ◌==◌, ◌&&◌, ℕ, zero, suc, ℤ, pos, negsuc, Bool, true}
+use Rattle.std.proofs.Common.{false, cond, ◌⊎◌, inl, inr, List, [], ◌∷◌, Option, Some, None, option_map, length, get_or}
+use Rattle.std.proofs.Common.{nat_lt, refl, sym, ap, ◌∙◌, rules, arith, decimal, lit<}
 use Rattle.std.proofs.lemmas.Bool.{and_parts, eqb-true}
 use Rattle.std.proofs.lemmas.Option.{same_Some}
-use Rattle.std.proofs.lemmas.Fmt.{digits_decimal, digits_value-decimal, decimal-digits_value, decimal_digit, decimal_nonempty, first_decimal}
+use Rattle.std.proofs.lemmas.Fmt.{digits_decimal, digits_value-decimal, decimal-digits_value, decimal_digit}
+use Rattle.std.proofs.lemmas.Fmt.{decimal_nonempty, first_decimal}
 use Rattle.std.proofs.lemmas.Str.Parse.{IsNumeralModel, numerals_by_fold, not_in_digits}
 use Rattle.std.specs.Str.{all_ascii_digits}
 use Rattle.std.specs.Char.{is_ascii_digit}
@@ -33,16 +36,19 @@ read-grows n (b ∷ bs) = omega (arith, read-grows (n * 10 + (b - 48)) bs)
 digit_fits : (n b : ℕ) → is_ascii_digit b ≡ true → nat_lt n 1000000000 ≡ true → n * 10 + (b - 48) < 10000000000
 digit_fits n b d h = grind arith
 
-digits_on-found : (n : ℕ) (ds : List ℕ) (v : ℕ) → n < 10000000000 → digits_on n ds ≡ Some v → (all_ascii_digits ds ≡ true) × (read n ds ≡ v) × (v < 10000000000)
+digits_on-found : (n : ℕ) (ds : List ℕ) (v : ℕ) → n < 10000000000 → digits_on n ds ≡ Some v
+    → (all_ascii_digits ds ≡ true) × (read n ds ≡ v) × (v < 10000000000)
 digits_on-found n [] v h e = let same : n ≡ v = same_Some n v e in (refl, same, omega arith)
 digits_on-found n (b ∷ bs) v h e =
-    let found : ((is_ascii_digit b && nat_lt n 1000000000) ≡ true) × (digits_on (n * 10 + (b - 48)) bs ≡ Some v) = cond_found _ _ _ e in
+    let found : ((is_ascii_digit b && nat_lt n 1000000000) ≡ true) × (digits_on (n * 10 + (b - 48)) bs ≡ Some v) =
+    cond_found _ _ _ e in
     let tests : (is_ascii_digit b ≡ true) × (nat_lt n 1000000000 ≡ true) = and_parts _ _ found.0 in
     let small : n * 10 + (b - 48) < 10000000000 = digit_fits n b tests.0 tests.1 in
     let rest = digits_on-found (n * 10 + (b - 48)) bs v small found.1 in
     (both _ _ tests.0 rest.0, rest.1, rest.2)
 
-digits_on-reads : (n : ℕ) (ds : List ℕ) → all_ascii_digits ds ≡ true → read n ds < 10000000000 → digits_on n ds ≡ Some (read n ds)
+digits_on-reads : (n : ℕ) (ds : List ℕ) → all_ascii_digits ds ≡ true → read n ds < 10000000000
+    → digits_on n ds ≡ Some (read n ds)
 digits_on-reads n [] d h = refl
 digits_on-reads n (b ∷ bs) d h =
     let parts : (is_ascii_digit b ≡ true) × (all_ascii_digits bs ≡ true) = and_parts _ _ d in
@@ -64,7 +70,8 @@ digits_of-decimal n h =
 
 may_be-decimal : (n : ℕ) → n < 10000000000 → may_be_number (decimal n) ≡ true
 may_be-decimal zero h = rw (decimal_digit 0 (lit< tt)) refl
-may_be-decimal (suc n) h = may_be-first _ (decimal_nonempty (suc n) (omega arith)) (first_decimal (suc n) (omega arith) (omega arith))
+may_be-decimal (suc n) h = may_be-first _ (decimal_nonempty (suc n) (omega arith))
+    (first_decimal (suc n) (omega arith) (omega arith))
 
 -- a number is read from its decimal text
 pub number_of-decimal : (n : ℕ) → n < 10000000000 → number_of (decimal n) ≡ Some n
@@ -77,11 +84,15 @@ unfolding number_of
 decimal-number_of bs n e =
     let found : (may_be_number bs ≡ true) × (digits_on 0 bs ≡ Some n) = cond_found _ _ _ e in
     let form = may_be-found bs found.0 in
-    let read_so = digits_on-found 0 bs n (lit< tt) found.1 in
-    (sym (decimal-digits_value own bs read_so.0 form.0 form.1 (omega (arith, read_so.1, read_so.2))) ∙ ap decimal read_so.1, read_so.2)
+    let read_so = digits_on-found 0 bs n (lit< tt) found.1 in (
+      sym (decimal-digits_value own bs read_so.0 form.0 form.1 (omega (arith, read_so.1, read_so.2)))
+          ∙ ap decimal read_so.1,
+      read_so.2,
+    )
 
 pub not_minus : (n : ℕ) → n < 10000000000 → get_or (decimal n) 0 0 ≢ 45
-not_minus n h = not_in_digits own (decimal n) 45 (digits_decimal own n (omega arith)) (λ r. omega (arith, r.0, r.1)) 0 (decimal_nonempty n (omega arith))
+not_minus n h = not_in_digits own (decimal n) 45 (digits_decimal own n (omega arith)) (λ r. omega (arith, r.0, r.1)) 0
+    (decimal_nonempty n (omega arith))
 
 plain_signed : (bs : List ℕ) → 0 < length bs → get_or bs 0 0 ≢ 45 → signed_of bs ≡ option_map pos (number_of bs)
 unfolding signed_of
@@ -91,18 +102,21 @@ plain_signed (c ∷ bs) h k = let no : (c == 45) ≡ false = grind arith in rw n
 -- a signed number is read from its decimal text
 pub signed_of-decimal : (z : ℤ) → mag z < 9999999999 → signed_of (signed_decimal z) ≡ Some z
 unfolding signed_of
-signed_of-decimal (pos n) h = plain_signed (decimal n) (decimal_nonempty n (omega arith)) (not_minus n (omega arith)) ∙ ap (option_map pos) (number_of-decimal n (omega arith))
+signed_of-decimal (pos n) h = plain_signed (decimal n) (decimal_nonempty n (omega arith)) (not_minus n (omega arith))
+    ∙ ap (option_map pos) (number_of-decimal n (omega arith))
 signed_of-decimal (negsuc n) h = rw (number_of-decimal (suc n) (omega arith)) refl
 
 negative-found : (n : ℕ) (z : ℤ) → negative n ≡ Some z → signed_decimal z ≡ 45 ∷ decimal n
 negative-found zero z e = cc
 negative-found (suc n) z e = let same : negsuc n ≡ z = same_Some _ _ e in rw (← same) refl
 
-pub bind_found : {A B : Type 0} (o : Option A) (f : A → Option B) (y : B) → (o >>= f) ≡ Some y → (x : A) × (o ≡ Some x) × (f x ≡ Some y)
+pub bind_found : {A B : Type 0} (o : Option A) (f : A → Option B) (y : B) → (o >>= f) ≡ Some y
+    → (x : A) × (o ≡ Some x) × (f x ≡ Some y)
 bind_found None f y e = cc
 bind_found (Some x) f y e = (x, refl, e)
 
-pub map_found : {A B : Type 0} (o : Option A) (f : A → B) (y : B) → option_map f o ≡ Some y → (x : A) × (o ≡ Some x) × (f x ≡ y)
+pub map_found : {A B : Type 0} (o : Option A) (f : A → B) (y : B) → option_map f o ≡ Some y
+    → (x : A) × (o ≡ Some x) × (f x ≡ y)
 map_found None f y e = cc
 map_found (Some x) f y e = (x, refl, same_Some _ _ e)
 

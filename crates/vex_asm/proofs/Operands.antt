@@ -1,5 +1,7 @@
 -- Operands, the memory size and what stands behind the name: what is read is what is printed.
-use Rattle.std.proofs.Common.{◌≡◌, ◌≤◌, ◌==◌, ◌++◌, ℕ, true, false, inl, inr, List, [], ◌∷◌, map, Option, Some, None, option_map, unwrap_or, length, nat_le, refl, ap, ◌∙◌, arith, decimal, codes, bytes_eq, IfSome}
+use Rattle.std.proofs.Common.{◌≡◌, ◌≤◌, ◌==◌, ◌++◌, ℕ, true, false, inl, inr, List, [], ◌∷◌, map, Option, Some, None}
+use Rattle.std.proofs.Common.{option_map, unwrap_or, length, nat_le, refl, ap, ◌∙◌, arith, decimal, codes, bytes_eq}
+use Rattle.std.proofs.Common.{IfSome}
 use Rattle.std.proofs.lemmas.Bool.{eqb-true}
 use Rattle.std.proofs.lemmas.Option.{same_Some, cond_some}
 use Rattle.std.proofs.lemmas.List.{append_assoc, append-nil, length-append}
@@ -10,12 +12,14 @@ use Rattle.x86_operand.specs.declared.register.RegisterBank.TheVariants.{Q, D, X
 use Rattle.x86_operand.specs.Meaning.{OperandMeaning, register, signed, unsigned, memory, nothing}
 use Rattle.x86_operand.specs.Range.{IsOperand}
 use Rattle.vex_asm.specs.Text.{register_text_in, operand_text}
-use Rattle.vex_asm.specs.Parsed.{◌>>=◌, register_of, byte_of, signed_byte_of, address_of, begun_of, operand_of, size_of, rest_of, few, behind}
+use Rattle.vex_asm.specs.Parsed.{◌>>=◌, register_of, byte_of, signed_byte_of, address_of, begun_of, operand_of, size_of}
+use Rattle.vex_asm.specs.Parsed.{rest_of, few, behind}
 use Rattle.vex_asm.proofs.Numbers.{bind_found, map_found, chosen}
 use Rattle.vex_asm.proofs.Registers.{byte_of-decimal, decimal-byte_of, register_of-text, text-register_of}
 use Rattle.vex_asm.proofs.Addresses.{signed_byte_of-text, text-signed_byte_of, address_of-text, text-address_of}
 
-of-register : (bank : RegisterBank) (n : ℕ) → operand_of (register_text_in bank n) ≡ option_map register (register_of (register_text_in bank n))
+of-register : (bank : RegisterBank) (n : ℕ)
+    → operand_of (register_text_in bank n) ≡ option_map register (register_of (register_text_in bank n))
 unfolding operand_of begun_of
 of-register Q n = refl
 of-register D n = refl
@@ -94,7 +98,8 @@ size_of-text (Some n) h =
     rw (byte_of-decimal n (omega (arith, h.1)), filled, small) refl
 
 -- what a memory size is read from is its text
-pub text-size_of : (bs : List ℕ) (size : Option ℕ) → size_of bs ≡ Some size → (bs ≡ decimal (unwrap_or size 0)) × IsSize size
+pub text-size_of : (bs : List ℕ) (size : Option ℕ) → size_of bs ≡ Some size
+    → (bs ≡ decimal (unwrap_or size 0)) × IsSize size
 unfolding size_of
 text-size_of bs size e =
     let found = bind_found _ _ _ e in
@@ -105,17 +110,20 @@ text-size_of bs size e =
     ]
 
 -- what stands behind the name is read from its text
-pub rest_of-text : (os : List OperandMeaning) (size : Option ℕ) → AllByRecursion IsOperand os → IsSize size → rest_of (map operand_text os ++ decimal (unwrap_or size 0) ∷ []) ≡ Some (os, size)
+pub rest_of-text : (os : List OperandMeaning) (size : Option ℕ) → AllByRecursion IsOperand os → IsSize size
+    → rest_of (map operand_text os ++ decimal (unwrap_or size 0) ∷ []) ≡ Some (os, size)
 unfolding rest_of
 rest_of-text [] size h k = rw (size_of-text size k) refl
 rest_of-text (o ∷ []) size h k = rw (operand_of-text o h.0, size_of-text size k) refl
 rest_of-text (o ∷ p ∷ os) size h k = rw (operand_of-text o h.0, rest_of-text (p ∷ os) size h.1 k) refl
 
 abbrev pub Behind : List (List ℕ) → List OperandMeaning × Option ℕ → Type 0
-Behind ws found = (ws ≡ map operand_text found.0 ++ decimal (unwrap_or found.1 0) ∷ []) × AllByRecursion IsOperand found.0 × IsSize found.1
+Behind ws found = (ws ≡ map operand_text found.0 ++ decimal (unwrap_or found.1 0) ∷ [])
+    × AllByRecursion IsOperand found.0 × IsSize found.1
 
 -- what it is read from is its text
-pub text-rest_of : (ws : List (List ℕ)) (found : List OperandMeaning × Option ℕ) → rest_of ws ≡ Some found → Behind ws found
+pub text-rest_of : (ws : List (List ℕ)) (found : List OperandMeaning × Option ℕ) → rest_of ws ≡ Some found
+    → Behind ws found
 unfolding rest_of
 text-rest_of [] found e = cc
 text-rest_of (w ∷ []) found e =
@@ -132,16 +140,19 @@ text-rest_of (w ∷ v ∷ ws) found e =
     rw (← same) (ap (λ x. x ∷ v ∷ ws) text.0 ∙ ap (λ x. operand_text one.0 ∷ x) more.0, (text.1, more.1), more.2)
 
 -- at most four operands
-few-found : (read : Option (List OperandMeaning × Option ℕ)) (found : List OperandMeaning × Option ℕ) → few read ≡ Some found → (read ≡ Some found) × (length found.0 ≤ 4)
+few-found : (read : Option (List OperandMeaning × Option ℕ)) (found : List OperandMeaning × Option ℕ)
+    → few read ≡ Some found → (read ≡ Some found) × (length found.0 ≤ 4)
 few-found read found e =
     let one = bind_found _ _ _ e in
     let last = cond_some _ _ _ one.2 in
     (one.1 ∙ ap (λ x. Some x) last.1, grind (arith, last.0, last.1))
 
-pub text-few : (ws : List (List ℕ)) (found : List OperandMeaning × Option ℕ) → few (rest_of ws) ≡ Some found → Behind ws found × (length found.0 ≤ 4)
+pub text-few : (ws : List (List ℕ)) (found : List OperandMeaning × Option ℕ) → few (rest_of ws) ≡ Some found
+    → Behind ws found × (length found.0 ≤ 4)
 text-few ws found e = let parts = few-found _ _ e in (text-rest_of ws found parts.0, parts.1)
 
-pub few-text : (os : List OperandMeaning) (size : Option ℕ) → AllByRecursion IsOperand os → IsSize size → length os ≤ 4 → few (rest_of (map operand_text os ++ decimal (unwrap_or size 0) ∷ [])) ≡ Some (os, size)
+pub few-text : (os : List OperandMeaning) (size : Option ℕ) → AllByRecursion IsOperand os → IsSize size → length os ≤ 4
+    → few (rest_of (map operand_text os ++ decimal (unwrap_or size 0) ∷ [])) ≡ Some (os, size)
 few-text os size h k n = let small : nat_le (length os) 4 ≡ true = grind arith in rw (rest_of-text os size h k, small) refl
 
 -- the steps of the loop over the operands
@@ -149,34 +160,44 @@ pub behind-nothing : (read : Option (List OperandMeaning × Option ℕ)) → beh
 behind-nothing None = refl
 behind-nothing (Some found) = refl
 
-regroup : (front : List OperandMeaning) (o : OperandMeaning) (read : Option (List OperandMeaning × Option ℕ)) → behind (front ++ o ∷ []) read ≡ behind front (read >>= λ found. Some (o ∷ found.0, found.1))
+regroup : (front : List OperandMeaning) (o : OperandMeaning) (read : Option (List OperandMeaning × Option ℕ))
+    → behind (front ++ o ∷ []) read ≡ behind front (read >>= λ found. Some (o ∷ found.0, found.1))
 regroup front o None = refl
 regroup front o (Some found) = ap (λ x. Some (x, found.1)) (append_assoc front (o ∷ []) found.0)
 
-pub behind-more : (front : List OperandMeaning) (o : OperandMeaning) (w v : List ℕ) (ws : List (List ℕ)) → Some o ≡ operand_of w → behind (front ++ o ∷ []) (rest_of (v ∷ ws)) ≡ behind front (rest_of (w ∷ v ∷ ws))
+pub behind-more : (front : List OperandMeaning) (o : OperandMeaning) (w v : List ℕ) (ws : List (List ℕ))
+    → Some o ≡ operand_of w → behind (front ++ o ∷ []) (rest_of (v ∷ ws)) ≡ behind front (rest_of (w ∷ v ∷ ws))
 unfolding rest_of
-behind-more front o w v ws e = regroup front o (rest_of (v ∷ ws)) ∙ ap (λ r. behind front (r >>= λ operand. rest_of (v ∷ ws) >>= λ found. Some (operand ∷ found.0, found.1))) e
+behind-more front o w v ws e = regroup front o (rest_of (v ∷ ws))
+    ∙ ap (λ r. behind front (r >>= λ operand. rest_of (v ∷ ws) >>= λ found. Some (operand ∷ found.0, found.1))) e
 
-pub behind-no_operand : (front : List OperandMeaning) (w v : List ℕ) (ws : List (List ℕ)) → None ≡ operand_of w → None ≡ few (behind front (rest_of (w ∷ v ∷ ws)))
+pub behind-no_operand : (front : List OperandMeaning) (w v : List ℕ) (ws : List (List ℕ)) → None ≡ operand_of w
+    → None ≡ few (behind front (rest_of (w ∷ v ∷ ws)))
 unfolding rest_of
-behind-no_operand front w v ws e = ap (λ r. few (behind front (r >>= λ operand. rest_of (v ∷ ws) >>= λ found. Some (operand ∷ found.0, found.1)))) e
+behind-no_operand front w v ws e = ap (λ r. few
+    (behind front (r >>= λ operand. rest_of (v ∷ ws) >>= λ found. Some (operand ∷ found.0, found.1)))) e
 
-too_many : (front : List OperandMeaning) (o : OperandMeaning) (read : Option (List OperandMeaning × Option ℕ)) → 4 ≤ length front → None ≡ few (behind (front ++ o ∷ []) read)
+too_many : (front : List OperandMeaning) (o : OperandMeaning) (read : Option (List OperandMeaning × Option ℕ))
+    → 4 ≤ length front → None ≡ few (behind (front ++ o ∷ []) read)
 too_many front o None h = refl
 too_many front o (Some found) h =
-    let long : nat_le (length (front ++ o ∷ [] ++ found.0)) 4 ≡ false = grind (arith, length-append (front ++ o ∷ []) found.0, length-append front (o ∷ [])) in
+    let long : nat_le (length (front ++ o ∷ [] ++ found.0)) 4 ≡ false =
+    grind (arith, length-append (front ++ o ∷ []) found.0, length-append front (o ∷ [])) in
     rw long refl
 
-pub behind-too_many : (front : List OperandMeaning) (o : OperandMeaning) (w v : List ℕ) (ws : List (List ℕ)) → Some o ≡ operand_of w → 4 ≤ length front → None ≡ few (behind front (rest_of (w ∷ v ∷ ws)))
+pub behind-too_many : (front : List OperandMeaning) (o : OperandMeaning) (w v : List ℕ) (ws : List (List ℕ))
+    → Some o ≡ operand_of w → 4 ≤ length front → None ≡ few (behind front (rest_of (w ∷ v ∷ ws)))
 behind-too_many front o w v ws e h = too_many front o (rest_of (v ∷ ws)) h ∙ ap few (behind-more front o w v ws e)
 
-pub behind-last : (front : List OperandMeaning) (w : List ℕ) (size : Option ℕ) → length front ≤ 4 → Some size ≡ size_of w → Some (front, size) ≡ few (behind front (rest_of (w ∷ [])))
+pub behind-last : (front : List OperandMeaning) (w : List ℕ) (size : Option ℕ) → length front ≤ 4
+    → Some size ≡ size_of w → Some (front, size) ≡ few (behind front (rest_of (w ∷ [])))
 unfolding rest_of
 behind-last front w size h e =
     let small : nat_le (length front) 4 ≡ true = grind arith in
     rw (← e, append-nil front, small) refl
 
-pub behind-no_size : (front : List OperandMeaning) (w : List ℕ) → None ≡ size_of w → None ≡ few (behind front (rest_of (w ∷ [])))
+pub behind-no_size : (front : List OperandMeaning) (w : List ℕ) → None ≡ size_of w
+    → None ≡ few (behind front (rest_of (w ∷ [])))
 unfolding rest_of
 behind-no_size front w e = rw (← e) refl
 

@@ -1,5 +1,6 @@
 -- The meaning that a line writes, as a function of the line.
-use Rattle.std.specs.Prelude.{ℕ, Bool, true, false, List, [], ◌∷◌, Option, Some, None, codes, take, drop, bytes_eq, option_map, if◌then◌else◌}
+use Rattle.std.specs.Prelude.{ℕ, Bool, true, false, List, [], ◌∷◌, Option, Some, None, codes, take, drop, bytes_eq}
+use Rattle.std.specs.Prelude.{option_map, if◌then◌else◌}
 use Rattle.x86_opcode.specs.declared.Opcode.{Opcode}
 use Rattle.x86_opcode.specs.Name.{opcode_name}
 use Rattle.x86_opcode.specs.Slots.{opcode_at, slot}

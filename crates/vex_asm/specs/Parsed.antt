@@ -1,5 +1,7 @@
 -- What is read of a text, part by part: private functions, proofs and `meaning_of` cite this, and no public contract.
-use Rattle.std.specs.Prelude.{ℕ, zero, suc, ℤ, pos, negsuc, neg_ℤ, ◌+◌, ◌-◌, ◌*◌, Bool, false, cond, not, List, [], ◌∷◌, ◌++◌, Option, Some, None, codes, length, nat_lt, nat_le, bytes_eq, ◌==◌, ◌&&◌, if◌then◌else◌, option_map}
+use Rattle.std.specs.Prelude.{ℕ, zero, suc, ℤ, pos, negsuc, neg_ℤ, ◌+◌, ◌-◌, ◌*◌, Bool, false, cond, not, List, [], ◌∷◌}
+use Rattle.std.specs.Prelude.{◌++◌, Option, Some, None, codes, length, nat_lt, nat_le, bytes_eq, ◌==◌, ◌&&◌}
+use Rattle.std.specs.Prelude.{if◌then◌else◌, option_map}
 use Rattle.std.specs.Char.{is_ascii_digit}
 use Rattle.std.specs.Int.RustNames.{int_le}
 use Rattle.x86_operand.specs.declared.address.Index.{Index}
@@ -128,12 +130,14 @@ size_of bs = byte_of bs >>= λ n. if n == 0 then Some None else when (nat_le n 6
 unfoldable pub rest_of : List (List ℕ) → Option (List OperandMeaning × Option ℕ)
 rest_of [] = None
 rest_of (last ∷ []) = size_of last >>= λ size. Some ([], size)
-rest_of (bs ∷ next ∷ rest) = operand_of bs >>= λ operand. rest_of (next ∷ rest) >>= λ found. Some (operand ∷ found.0, found.1)
+rest_of (bs ∷ next ∷ rest) = operand_of bs >>= λ operand. rest_of (next ∷ rest) >>= λ found. Some
+    (operand ∷ found.0, found.1)
 
 -- at most four operands
 abbrev pub few : Option (List OperandMeaning × Option ℕ) → Option (List OperandMeaning × Option ℕ)
 few read = read >>= λ found. when (nat_le (length found.0) 4) found
 
 -- operands in front of what is found
-abbrev pub behind : List OperandMeaning → Option (List OperandMeaning × Option ℕ) → Option (List OperandMeaning × Option ℕ)
+abbrev pub behind : List OperandMeaning → Option (List OperandMeaning × Option ℕ)
+    → Option (List OperandMeaning × Option ℕ)
 behind front read = read >>= λ found. Some (front ++ found.0, found.1)

@@ -1,5 +1,6 @@
 -- The text of a meaning, and the words of a line.
-use Rattle.std.specs.Prelude.{ℕ, Bool, true, false, List, [], ◌∷◌, ◌++◌, Option, Some, None, codes, decimal, unwrap_or, map, filter, ◌==◌, ◌||◌}
+use Rattle.std.specs.Prelude.{ℕ, Bool, true, false, List, [], ◌∷◌, ◌++◌, Option, Some, None, codes, decimal, unwrap_or}
+use Rattle.std.specs.Prelude.{map, filter, ◌==◌, ◌||◌}
 use Rattle.std.specs.List.{slice_split, join_with_byte}
 use Rattle.std.specs.Fmt.{signed_decimal}
 use Rattle.x86_opcode.specs.Name.{opcode_name}
@@ -52,7 +53,8 @@ mark_text false = []
 
 -- the parts of the text of a meaning: the opcode's name behind the mark, the operands, the memory size, 0 for none
 abbrev pub parts : Meaning → List (List ℕ)
-parts m = (mark_text m.evex ++ opcode_name m.opcode) ∷ (map operand_text m.operands ++ decimal (unwrap_or m.size 0) ∷ [])
+parts m = (mark_text m.evex ++ opcode_name m.opcode)
+    ∷ (map operand_text m.operands ++ decimal (unwrap_or m.size 0) ∷ [])
 
 -- the text of a meaning: its parts with one space between them
 unfoldable pub text : Meaning → List ℕ

@@ -44,8 +44,8 @@ pub fn assemble_instruction(line: &[u8]) -> Result<(Instruction, Spelling), AsmE
 
 /// The canonical bytes of the meaning that a line writes, as `read` reads it: `VADDPS x0 x1 x2 0` gives C5 F0 58 C2.
 ///
-/// `BadText` comes as for `read`, exactly where the line's words are no meaning's text. `NoSpelling` comes exactly where
-/// they are the text of a meaning that no byte string spells.
+/// `BadText` comes as for `read`, exactly where the line's words are no meaning's text. `NoSpelling` comes exactly
+/// where they are the text of a meaning that no byte string spells.
 pub fn assemble(line: &[u8]) -> Result<Spelling, AsmError>
     ensures assembled { IfOk result (λ spelling. AssemblesTo line.now spelling) }
     ensures only { (bytes : List ℕ) → AssemblesTo line.now bytes → result ≡ Ok bytes }
@@ -53,7 +53,8 @@ pub fn assemble(line: &[u8]) -> Result<Spelling, AsmError>
     ensures no_spelling { result ≡ Err NoSpelling ↔ HasNoSpelling line.now }
 
     // The text of a meaning that has canonical bytes assembles to them.
-    ensures again { (m : Meaning) (bytes : List ℕ) → IsMeaning m → text m ≡ line.now → canon m ≡ Some bytes → result ≡ Ok bytes }
+    ensures again { (m : Meaning) (bytes : List ℕ) → IsMeaning m → text m ≡ line.now → canon m ≡ Some bytes
+        → result ≡ Ok bytes }
 {
     // A law: canonical bytes spell their meaning.
     recode_again();

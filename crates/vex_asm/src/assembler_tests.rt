@@ -1,9 +1,9 @@
 use crate::{AsmError, assemble, assemble_instruction, meaning_of_line, print, text_assembles};
 use x86_settings::InstDecoder;
 
-/// Texts, and the bytes that they assemble to: an instruction without operands, registers, another entry that is shorter,
-/// swapped operands, addresses with each kind of base and index, displacements of each size, immediates, groups, gathers,
-/// and sizes.
+/// Texts, and the bytes that they assemble to: an instruction without operands, registers, another entry that is
+/// shorter, swapped operands, addresses with each kind of base and index, displacements of each size, immediates,
+/// groups, gathers, and sizes.
 #[rattlefmt::skip]
 static TEXTS: [(&str, &[u8]); 32] = [
     ("VADDPS x0 x1 x2 0", b"\xc5\xf0\x58\xc2"),

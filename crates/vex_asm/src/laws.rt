@@ -1,5 +1,5 @@
-//! What holds of the texts of all meanings, each law as the contract of a function that does nothing, but for calls that
-//! what it says follows from.
+//! What holds of the texts of all meanings, each law as the contract of a function that does nothing, but for calls
+//! that what it says follows from.
 
 ghost use Rattle.vex_asm.specs.Assembly.{TextAssembles};
 ghost use Rattle.vex_asm.specs.Laws.{MeaningOfLine, TextsAreWords, TextsDiffer};
@@ -24,8 +24,8 @@ pub fn meaning_of_line()
     ensures { MeaningOfLine }
 {}
 
-/// The text of the meaning that a decode of these bytes answers assembles to the canonical bytes of that meaning, whatever
-/// blanks stand between its words.
+/// The text of the meaning that a decode of these bytes answers assembles to the canonical bytes of that meaning,
+/// whatever blanks stand between its words.
 pub fn text_assembles(decoder: &InstDecoder, bytes: &[u8])
     ensures { TextAssembles decoder.now bytes.now }
 {

@@ -2,7 +2,8 @@
 
 ghost use Rattle.std.specs.Prelude.{◌≡◌, option_map};
 ghost use Rattle.x86_operand.specs.Meaning.{operand_meaning};
-ghost use Rattle.vex_asm.specs.Parsed.{bank_of, lettered_of, register_of, cut, base_of, scaled_of, index_of, address_of, begun_of, operand_of, size_of};
+ghost use Rattle.vex_asm.specs.Parsed.{bank_of, lettered_of, register_of, cut, base_of, scaled_of, index_of};
+ghost use Rattle.vex_asm.specs.Parsed.{address_of, begun_of, operand_of, size_of};
 
 use crate::number::{byte, displacement, number, signed_byte};
 use x86_operand::{Address, Index, MemoryAccessSize, Operand, RegSpec, RegisterBank};

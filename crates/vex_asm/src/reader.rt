@@ -40,7 +40,8 @@ fn opcode(name: &[u8]) -> Option<Opcode>
 // The opcode of the first word, and whether the EVEX mark stands before its name.
 fn head(word: &[u8]) -> Option<(bool, Opcode)>
     ensures found { IfSome result (λ head. mark_text head.0 ++ opcode_name head.1 ≡ word.now) }
-    ensures only { (evex : Bool) (opcode : Opcode) → mark_text evex ++ opcode_name opcode ≡ word.now → result ≡ Some (evex, opcode) }
+    ensures only { (evex : Bool) (opcode : Opcode) → mark_text evex ++ opcode_name opcode ≡ word.now
+        → result ≡ Some (evex, opcode) }
 {
     match word.strip_prefix(b"EVEX.".as_slice()) {
         Some(name) => match opcode(name) {
@@ -56,7 +57,8 @@ fn head(word: &[u8]) -> Option<(bool, Opcode)>
 
 // The operands and the memory size of the words behind the name.
 fn behind_name(bytes: &[u8]) -> Option<Rest>
-    ensures value { option_map (λ p. (map operand_meaning (take p.count p.operands), p.size)) result ≡ few (rest_of (line_parts bytes.now)) }
+    ensures value { option_map (λ p. (map operand_meaning (take p.count p.operands), p.size)) result
+        ≡ few (rest_of (line_parts bytes.now)) }
     ensures count { IfSome result (λ p. p.count ≤ 4) }
 {
     let (mut last, mut rest) = next_word(bytes)?;
@@ -95,8 +97,8 @@ fn instruction_of(line: &[u8]) -> Option<Instruction>
 /// between spaces, tabs and carriage returns, of any number, which may stand before the first and behind the last too.
 ///
 /// `BadText` comes exactly where no meaning in range has this text, and no other error comes. So numbers are exact: one
-/// with a leading zero, `-0`, a register that its bank doesn't have, an immediate, a scale, a displacement or a size out
-/// of range, and a fifth operand are no text. What no bytes spell is a text all the same, as `VADDPS x0 0`.
+/// with a leading zero, `-0`, a register that its bank doesn't have, an immediate, a scale, a displacement or a size
+/// out of range, and a fifth operand are no text. What no bytes spell is a text all the same, as `VADDPS x0 0`.
 pub fn read(line: &[u8]) -> Result<Instruction, AsmError>
     ensures found { IfOk result (λ read. (read.len ≡ 0) × IsTextOf line.now read.meaning) }
     ensures only { (m : Meaning) → IsTextOf line.now m → result ≡ Ok (record { meaning = m; len = 0 }) }

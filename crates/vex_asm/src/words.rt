@@ -42,7 +42,8 @@ fn first_word(bytes: &[u8]) -> (&[u8], &[u8])
 
 /// The first word of a line, and what follows it, or `None` where there is no word.
 pub fn next_word(bytes: &[u8]) -> Option<(&[u8], &[u8])>
-    ensures parts { MatchOption result (line_parts bytes.now ≡ []) (λ found. line_parts bytes.now ≡ found.0.now ∷ line_parts found.1.now) }
+    ensures parts { MatchOption result (line_parts bytes.now ≡ [])
+        (λ found. line_parts bytes.now ≡ found.0.now ∷ line_parts found.1.now) }
     ensures short { IfSome result (λ found. length found.1.now < length bytes.now) }
 {
     let bytes = skip_blanks(bytes);

@@ -1,5 +1,6 @@
 -- Which settings accept a run.
-use Rattle.std.proofs.Common.{◌||◌, subst, ◌≡◌, ℕ, ◌<◌, ◌≤◌, Bool, true, false, not, List, [], ◌∷◌, Option, Some, None, refl, sym, ap, ◌∙◌, arith, le_refl}
+use Rattle.std.proofs.Common.{◌||◌, subst, ◌≡◌, ℕ, ◌<◌, ◌≤◌, Bool, true, false, not, List, [], ◌∷◌, Option, Some, None}
+use Rattle.std.proofs.Common.{refl, sym, ap, ◌∙◌, arith, le_refl}
 use Rattle.std.specs.Prelude.{◌==◌, All, Contains, IsTrue, cond, find, map, option_map}
 use Rattle.std.specs.List.{cons_option, filter_map, list_any, range_with_len}
 use Rattle.std.proofs.lemmas.List.Elements.{All-cons, All-contains, All-nil}
@@ -17,10 +18,14 @@ use Rattle.vex_encode.specs.declared.sweeper.SweepEnd.{SweepEnd}
 use Rattle.vex_encode.specs.declared.sweeper.SweepEnd.TheVariants.{End, Stopped}
 use Rattle.vex_encode.specs.Sweep.{Swept, SweptItem, swept}
 use Rattle.vex_check.specs.declared.needs.First.{First}
-use Rattle.vex_check.specs.Needs.{all_needed, end_fault, fault, fault_by, first_needing, first_of, firsts, is_marked, needs, run}
-use Rattle.vex_check.specs.Accepted.{EndsWhereCovered, IsLeastLack, NeedsSayWhoAccepts, NeedsSayWhereOthersStop, StopsAtLack, StopsAtLeastLack}
-use Rattle.vex_check.proofs.Bits.{below, each-among, false-is-not-true, five, from-made, lacking, needed-five, set-each, to-made}
-use Rattle.vex_check.proofs.Places.{Ascend, FoundAt, FoundBy, contains-here, contains-later, found-at, found-sooner, none-passes}
+use Rattle.vex_check.specs.Needs.{all_needed, end_fault, fault, fault_by, first_needing, first_of, firsts, is_marked}
+use Rattle.vex_check.specs.Needs.{needs, run}
+use Rattle.vex_check.specs.Accepted.{EndsWhereCovered, IsLeastLack, NeedsSayWhoAccepts, NeedsSayWhereOthersStop}
+use Rattle.vex_check.specs.Accepted.{StopsAtLack, StopsAtLeastLack}
+use Rattle.vex_check.proofs.Bits.{below, each-among, false-is-not-true, five, from-made, lacking, needed-five, set-each}
+use Rattle.vex_check.proofs.Bits.{to-made}
+use Rattle.vex_check.proofs.Places.{Ascend, FoundAt, FoundBy, contains-here, contains-later, found-at, found-sooner}
+use Rattle.vex_check.proofs.Places.{none-passes}
 use Rattle.vex_check.proofs.Runs.{IsVex, cut_end, end-cut, end_at, is_permitted, run-ascends, run-vex}
 
 no-some : {item : SweptItem} → None ≡ Some item → ⊥
@@ -40,14 +45,17 @@ not-true false h = refl
 by-least : (settings : List Bool) (item : SweptItem) → IsVex item → is_marked item ≡ false
     → is_permitted settings item ≡ all_set settings (least item.decoded.meaning.opcode)
 by-least settings item vex unmarked =
-    ap (λ mark. permits settings mark item.decoded.meaning.opcode) unmarked ∙ permits-least settings item.decoded.meaning.opcode vex
+    ap (λ mark. permits settings mark item.decoded.meaning.opcode) unmarked
+    ∙ permits-least settings item.decoded.meaning.opcode vex
 
 -- ---- what is found, and whether there is any
 
-found-any : (p : SweptItem → Bool) (items : List SweptItem) (item : SweptItem) → find p items ≡ Some item → list_any p items ≡ true
+found-any : (p : SweptItem → Bool) (items : List SweptItem) (item : SweptItem) → find p items ≡ Some item
+    → list_any p items ≡ true
 found-any p [] item h = cc
 found-any p (first ∷ items) item h = by (p first) h (λ k. found-any p items item k) where
-  by : (b : Bool) → cond b (Some first) (find p items) ≡ Some item → (find p items ≡ Some item → list_any p items ≡ true) → (b || list_any p items) ≡ true
+  by : (b : Bool) → cond b (Some first) (find p items) ≡ Some item
+      → (find p items ≡ Some item → list_any p items ≡ true) → (b || list_any p items) ≡ true
   by true h later = refl
   by false h later = later h
 
@@ -58,27 +66,33 @@ pub record Found (p : SweptItem → Bool) (items : List SweptItem) : Type 0 wher
 any-found : (p : SweptItem → Bool) (items : List SweptItem) → list_any p items ≡ true → Found p items
 any-found p [] h = absurd (false-is-not-true h)
 any-found p (first ∷ items) h = by (p first) refl h (λ k. any-found p items k) where
-  by : (b : Bool) → p first ≡ b → (b || list_any p items) ≡ true → (list_any p items ≡ true → Found p items) → Found p (first ∷ items)
+  by : (b : Bool) → p first ≡ b → (b || list_any p items) ≡ true → (list_any p items ≡ true → Found p items)
+      → Found p (first ∷ items)
   by true e h later = record { item = first; is = ap (λ c. cond c (Some first) (find p items)) e }
   by false e h later = let l = later h in record { item = l.item; is = ap (λ c. cond c (Some first) (find p items)) e ∙ l.is }
 
 -- what is kept of a list that is mapped
-kept-contains : (f : ℕ → Option First) (bits : List ℕ) (bit : ℕ) (first : First) → is_among bits bit ≡ true → f bit ≡ Some first
+kept-contains : (f : ℕ → Option First) (bits : List ℕ) (bit : ℕ) (first : First) → is_among bits bit ≡ true
+    → f bit ≡ Some first
     → Contains (filter_map f bits) first
 kept-contains f [] bit first among is = absurd (false-is-not-true among)
-kept-contains f (b ∷ bits) bit first among is = by (b == bit) refl among (λ k. kept-contains f bits bit first k is) where
-  onto : (o : Option First) → Contains (filter_map f bits) first → Contains (cons_option o (filter_map f bits)) first
-  onto None has = has
-  onto (Some other) has = contains-later other (filter_map f bits) first has
+kept-contains f (b ∷ bits) bit first among is =
+    by (b == bit) refl among (λ k. kept-contains f bits bit first k is) where
+      onto : (o : Option First) → Contains (filter_map f bits) first → Contains (cons_option o (filter_map f bits)) first
+      onto None has = has
+      onto (Some other) has = contains-later other (filter_map f bits) first has
 
-  by : (c : Bool) → (b == bit) ≡ c → (c || is_among bits bit) ≡ true → (is_among bits bit ≡ true → Contains (filter_map f bits) first)
-      → Contains (cons_option (f b) (filter_map f bits)) first
-  by true e among later =
-      let same : f b ≡ Some first = ap f (eqb-true b bit e) ∙ is in
-      subst (λ o. Contains (cons_option o (filter_map f bits)) first) (sym same) (contains-here first (filter_map f bits))
-  by false e among later = onto (f b) (later among)
+      by : (c : Bool) → (b == bit) ≡ c → (c || is_among bits bit) ≡ true
+          → (is_among bits bit ≡ true → Contains (filter_map f bits) first)
+          → Contains (cons_option (f b) (filter_map f bits)) first
+      by true e among later =
+          let same : f b ≡ Some first = ap f (eqb-true b bit e) ∙ is in
+          subst (λ o. Contains (cons_option o (filter_map f bits)) first) (sym same)
+          (contains-here first (filter_map f bits))
+      by false e among later = onto (f b) (later among)
 
-all-kept : (P : First → Type 0) (f : ℕ → Option First) → ((bit : ℕ) (first : First) → f bit ≡ Some first → P first) → (bits : List ℕ)
+all-kept : (P : First → Type 0) (f : ℕ → Option First) → ((bit : ℕ) (first : First) → f bit ≡ Some first → P first)
+    → (bits : List ℕ)
     → All P (filter_map f bits)
 all-kept P f h [] = All-nil P
 all-kept P f h (b ∷ bits) = by (f b) refl (all-kept P f h bits) where
@@ -92,22 +106,27 @@ among-all bit h = each-among five (range_with_len 0 128) bit refl h
 
 -- ---- the law
 
-module _ (settings : List Bool) (items : List SweptItem) (up : Ascend 0 items) (vex : All IsVex items) (unmarked : All (λ item. is_marked item ≡ false) items) where
+module _ (settings : List Bool) (items : List SweptItem) (up : Ascend 0 items) (vex : All IsVex items)
+    (unmarked : All (λ item. is_marked item ≡ false) items) where
   -- an instruction that the settings don't permit
   refused : SweptItem → Bool
   refused item = not (is_permitted settings item)
 
   -- one that needs a bit which they lack
-  refused-lacking : (item : SweptItem) (bit : ℕ) → Contains items item → needs bit item ≡ true → is_set settings bit ≡ false → refused item ≡ true
+  refused-lacking : (item : SweptItem) (bit : ℕ) → Contains items item → needs bit item ≡ true
+      → is_set settings bit ≡ false → refused item ≡ true
   unfolding refused
   refused-lacking item bit has need lack =
-      by (is_permitted settings item) (by-least settings item (All-contains IsVex items item vex has) (All-contains (λ i. is_marked i ≡ false) items item unmarked has)) where
+      by (is_permitted settings item) (by-least settings item (All-contains IsVex items item vex has)
+      (All-contains (λ i. is_marked i ≡ false) items item unmarked has)) where
         by : (b : Bool) → b ≡ all_set settings (least item.decoded.meaning.opcode) → not b ≡ true
-        by true e = absurd (false-is-not-true (sym lack ∙ set-each settings (least item.decoded.meaning.opcode) bit (sym e) need))
+        by true e = absurd (false-is-not-true
+            (sym lack ∙ set-each settings (least item.decoded.meaning.opcode) bit (sym e) need))
         by false e = refl
 
   -- the first that needs such a bit stands no earlier than the first that is refused
-  no-sooner : (bit : ℕ) (item : SweptItem) → find (needs bit) items ≡ Some item → is_set settings bit ≡ false → FoundBy refused items item.place
+  no-sooner : (bit : ℕ) (item : SweptItem) → find (needs bit) items ≡ Some item → is_set settings bit ≡ false
+      → FoundBy refused items item.place
   no-sooner bit item h lack =
       let at = found-at (needs bit) items item h in
       found-sooner (needs bit) refused 0 items item up h (refused-lacking item bit at.among at.passes lack)
@@ -127,7 +146,8 @@ module _ (settings : List Bool) (items : List SweptItem) (up : Ascend 0 items) (
       let at = found-at refused items item h in
       let least_of = least item.decoded.meaning.opcode in
       let lack = lacking settings least_of
-      (sym (by-least settings item (All-contains IsVex items item vex at.among) (All-contains (λ i. is_marked i ≡ false) items item unmarked at.among))
+      (sym (by-least settings item (All-contains IsVex items item vex at.among)
+      (All-contains (λ i. is_marked i ≡ false) items item unmarked at.among))
       ∙ not-true (is_permitted settings item) at.passes) in
       let sooner = found-sooner refused (needs lack.bit) 0 items item up h lack.among in
       let later = no-sooner lack.bit sooner.item sooner.is lack.lacked in
@@ -150,7 +170,8 @@ module _ (settings : List Bool) (items : List SweptItem) (up : Ascend 0 items) (
     by None e = refl
     by (Some item) e =
         let l = first-lack item e in
-        let needed = to-made (λ bit. list_any (needs bit) items) l.bit (below l.bit l.is_five) (found-any (needs l.bit) items l.other l.is) in
+        let needed = to-made (λ bit. list_any (needs bit) items) l.bit (below l.bit l.is_five)
+        (found-any (needs l.bit) items l.other l.is) in
         absurd (false-is-not-true (sym l.lacked ∙ within l.bit needed))
 
   -- and settings that refuse none have every such bit
@@ -171,12 +192,15 @@ module _ (settings : List Bool) (items : List SweptItem) (up : Ascend 0 items) (
       let l = first-lack item h in
       record {
         first = first_of l.bit l.other;
-        among = kept-contains (first_needing items) (range_with_len 0 128) l.bit (first_of l.bit l.other) (among-all l.bit l.is_five) (ap (option_map (first_of l.bit)) l.is);
+        among = kept-contains (first_needing items) (range_with_len 0 128) l.bit (first_of l.bit l.other)
+            (among-all l.bit l.is_five) (ap (option_map (first_of l.bit)) l.is);
         lacked = l.lacked;
         here = l.here;
-        least = all-kept (λ (other : First). is_set settings other.bit ≡ false → item.place ≤ other.place) (first_needing items) each-later (range_with_len 0 128);
+        least = all-kept (λ (other : First). is_set settings other.bit ≡ false → item.place ≤ other.place)
+            (first_needing items) each-later (range_with_len 0 128);
       } where
-        later : (bit : ℕ) (o : Option SweptItem) (first : First) → find (needs bit) items ≡ o → option_map (first_of bit) o ≡ Some first
+        later : (bit : ℕ) (o : Option SweptItem) (first : First) → find (needs bit) items ≡ o
+            → option_map (first_of bit) o ≡ Some first
             → is_set settings first.bit ≡ false → item.place ≤ first.place
         later bit None first e is lack = cc
         later bit (Some other) first e is lack =
@@ -188,7 +212,8 @@ module _ (settings : List Bool) (items : List SweptItem) (up : Ascend 0 items) (
             let at : other.place ≡ first.place = ap (λ (g : First). g.place) f in
             omega (arith, place, at, found.by)
 
-        each-later : (bit : ℕ) (first : First) → first_needing items bit ≡ Some first → is_set settings first.bit ≡ false → item.place ≤ first.place
+        each-later : (bit : ℕ) (first : First) → first_needing items bit ≡ Some first
+            → is_set settings first.bit ≡ false → item.place ≤ first.place
         each-later bit first is lack = later bit (find (needs bit) items) first refl is lack
 
 no-stop : {place : ℕ} {error : DecodeError} → End ≡ Stopped place error → ⊥
@@ -201,12 +226,14 @@ record Faultless (swept : Swept) : Type 0 where
 
 faultless : (swept : Swept) → fault swept ≡ None → Faultless swept
 faultless swept h = by (find is_marked swept.items) refl swept.end refl h where
-  by : (o : Option SweptItem) → find is_marked swept.items ≡ o → (end : SweepEnd) → swept.end ≡ end → fault_by o end ≡ None → Faultless swept
+  by : (o : Option SweptItem) → find is_marked swept.items ≡ o → (end : SweepEnd) → swept.end ≡ end
+      → fault_by o end ≡ None → Faultless swept
   by None e End is h = record { unmarked = none-passes is_marked swept.items e; ended = is }
   by None e (Stopped place error) is h = cc
   by (Some item) e end is h = cc
 
-module _ (all : AllSettingsPermitAll) (read : ReadingIsSpelling) (are_vex : VexOpcodes) (bytes : List ℕ) (is : IsBytes bytes) (none : fault (run bytes) ≡ None)
+module _ (all : AllSettingsPermitAll) (read : ReadingIsSpelling) (are_vex : VexOpcodes) (bytes : List ℕ)
+    (is : IsBytes bytes) (none : fault (run bytes) ≡ None)
     (settings : List Bool) where
   ascend : Ascend 0 (run bytes).items
   ascend = run-ascends all_bits 0 0 bytes
@@ -218,7 +245,8 @@ module _ (all : AllSettingsPermitAll) (read : ReadingIsSpelling) (are_vex : VexO
   unmarked = (faultless (run bytes) none).unmarked
 
   -- how a sweep ends under the settings
-  ends-by : (o : Option SweptItem) → find (λ item. not (is_permitted settings item)) (run bytes).items ≡ o → (swept settings bytes).end ≡ end_at o End
+  ends-by : (o : Option SweptItem) → find (λ item. not (is_permitted settings item)) (run bytes).items ≡ o
+      → (swept settings bytes).end ≡ end_at o End
   ends-by o e =
       end-cut all settings 0 0 bytes
       ∙ ap (λ o. end_at o (run bytes).end) e
@@ -230,15 +258,18 @@ module _ (all : AllSettingsPermitAll) (read : ReadingIsSpelling) (are_vex : VexO
 
   within-where : (swept settings bytes).end ≡ End → AreWithin (all_needed (run bytes).items) settings
   unfolding refused
-  within-where ended = all-within settings (run bytes).items ascend vex unmarked (by (find (λ item. not (is_permitted settings item)) (run bytes).items) refl) where
-    by : (o : Option SweptItem) → find (λ item. not (is_permitted settings item)) (run bytes).items ≡ o → o ≡ None
-    by None e = refl
-    by (Some item) e = absurd (no-stop (sym ended ∙ ends-by (Some item) e))
+  within-where ended = all-within settings (run bytes).items ascend vex unmarked
+      (by (find (λ item. not (is_permitted settings item)) (run bytes).items) refl) where
+        by : (o : Option SweptItem) → find (λ item. not (is_permitted settings item)) (run bytes).items ≡ o → o ≡ None
+        by None e = refl
+        by (Some item) e = absurd (no-stop (sym ended ∙ ends-by (Some item) e))
 
-  stops-where : (AreWithin (all_needed (run bytes).items) settings → ⊥) → StopsAtLack settings bytes (firsts (run bytes).items)
+  stops-where : (AreWithin (all_needed (run bytes).items) settings → ⊥)
+      → StopsAtLack settings bytes (firsts (run bytes).items)
   unfolding refused
   stops-where not_within = by (find (λ item. not (is_permitted settings item)) (run bytes).items) refl where
-    by : (o : Option SweptItem) → find (λ item. not (is_permitted settings item)) (run bytes).items ≡ o → StopsAtLack settings bytes (firsts (run bytes).items)
+    by : (o : Option SweptItem) → find (λ item. not (is_permitted settings item)) (run bytes).items ≡ o
+        → StopsAtLack settings bytes (firsts (run bytes).items)
     by None e = absurd (not_within (all-within settings (run bytes).items ascend vex unmarked e))
     by (Some item) e = record {
       place = item.place;
@@ -248,7 +279,10 @@ module _ (all : AllSettingsPermitAll) (read : ReadingIsSpelling) (are_vex : VexO
 
 module _ (all : AllSettingsPermitAll) (read : ReadingIsSpelling) (are_vex : VexOpcodes) where
   pub who_accepts : NeedsSayWhoAccepts
-  who_accepts bytes is none settings = (ends-where all read are_vex bytes is none settings, within-where all read are_vex bytes is none settings)
+  who_accepts bytes is none settings = (
+    ends-where all read are_vex bytes is none settings,
+    within-where all read are_vex bytes is none settings,
+  )
 
   pub where_others_stop : NeedsSayWhereOthersStop
   where_others_stop bytes is none settings = stops-where all read are_vex bytes is none settings

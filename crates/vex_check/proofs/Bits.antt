@@ -1,5 +1,6 @@
 -- Bits of settings, and the five that VEX opcodes need.
-use Rattle.std.proofs.Common.{add-zero, zero-add, nat_lt, ◌≡◌, ℕ, zero, suc, ◌+◌, ◌<◌, ◌≤◌, Bool, true, false, List, [], ◌∷◌, map, refl, sym, ap, ◌∙◌, arith, length, IsTrue}
+use Rattle.std.proofs.Common.{add-zero, zero-add, nat_lt, ◌≡◌, ℕ, zero, suc, ◌+◌, ◌<◌, ◌≤◌, Bool, true, false, List, []}
+use Rattle.std.proofs.Common.{◌∷◌, map, refl, sym, ap, ◌∙◌, arith, length, IsTrue}
 use Rattle.std.specs.Prelude.{◌==◌, ◌&&◌, ◌||◌}
 use Rattle.std.specs.List.{list_all, list_any, range_with_len}
 use Rattle.std.proofs.lemmas.Bool.{and_parts, and_from, eqb-true}
@@ -49,12 +50,14 @@ same-bit i = grind (arith, nat_tests)
 each : (p : ℕ → Bool) (places : List ℕ) (i : ℕ) → list_all p places ≡ true → is_among places i ≡ true → p i ≡ true
 each p [] i h m = cc
 each p (j ∷ places) i h m = by (j == i) refl m (λ k. each p places i (and_parts _ _ h).1 k) where
-  by : (b : Bool) → (j == i) ≡ b → (b || is_among places i) ≡ true → (is_among places i ≡ true → p i ≡ true) → p i ≡ true
+  by : (b : Bool) → (j == i) ≡ b → (b || is_among places i) ≡ true → (is_among places i ≡ true → p i ≡ true)
+      → p i ≡ true
   by true e m later = ap p (sym (eqb-true j i e)) ∙ (and_parts _ _ h).0
   by false e m later = later m
 
 -- where all of a list are among others, each of it is
-pub each-among : (places others : List ℕ) (i : ℕ) → list_all (is_among others) places ≡ true → is_among places i ≡ true → is_among others i ≡ true
+pub each-among : (places others : List ℕ) (i : ℕ) → list_all (is_among others) places ≡ true → is_among places i ≡ true
+    → is_among others i ≡ true
 each-among places others i h m = each (is_among others) places i h m
 
 -- a bit that an opcode needs is one of the five
@@ -62,7 +65,8 @@ pub needed-five : (o : Opcode) (i : ℕ) → is_among (least o) i ≡ true → i
 needed-five o i m = each (is_among five) (least o) i (least-five o) m
 
 -- each of these bits that is set in the settings
-pub set-each : (s : List Bool) (places : List ℕ) (i : ℕ) → all_set s places ≡ true → is_among places i ≡ true → is_set s i ≡ true
+pub set-each : (s : List Bool) (places : List ℕ) (i : ℕ) → all_set s places ≡ true → is_among places i ≡ true
+    → is_set s i ≡ true
 set-each s places i h m = each (is_set s) places i h m
 
 -- a bit among these that isn't set, where not all are
@@ -80,12 +84,14 @@ lacking s (i ∷ places) h = by (is_set s i) refl h (λ k. lacking s places k) w
   further : (j : ℕ) → is_among places j ≡ true → ((i == j) || is_among places j) ≡ true
   further j m = rw (m) (or-true (i == j))
 
-  by : (b : Bool) → is_set s i ≡ b → (b && all_set s places) ≡ false → (all_set s places ≡ false → Lacks s places) → Lacks s (i ∷ places)
+  by : (b : Bool) → is_set s i ≡ b → (b && all_set s places) ≡ false → (all_set s places ≡ false → Lacks s places)
+      → Lacks s (i ∷ places)
   by true e h later = let l = later h in record { bit = l.bit; among = further l.bit l.among; lacked = l.lacked }
   by false e h later = record { bit = i; among = here (is_among places i); lacked = e }
 
 -- where each of these bits is set, all are
-pub all-each : (s : List Bool) (places : List ℕ) → ((i : ℕ) → is_among places i ≡ true → is_set s i ≡ true) → all_set s places ≡ true
+pub all-each : (s : List Bool) (places : List ℕ) → ((i : ℕ) → is_among places i ≡ true → is_set s i ≡ true)
+    → all_set s places ≡ true
 all-each s [] h = refl
 all-each s (i ∷ places) h =
     and_from _ _ (h i (rw (same-bit i) refl)) (all-each s places (λ j m. h j (rw (m) (or-true (i == j)))))

@@ -1,5 +1,6 @@
 -- A check, instruction by instruction.
-use Rattle.std.proofs.Common.{◌≡◌, ℕ, zero, suc, ◌+◌, ◌-◌, ◌<◌, ◌≤◌, Bool, true, false, List, [], ◌∷◌, ◌++◌, length, take, drop, Option, Some, None, Result, Ok, Err, refl, sym, ap, ◌∙◌, arith, append_assoc}
+use Rattle.std.proofs.Common.{◌≡◌, ℕ, zero, suc, ◌+◌, ◌-◌, ◌<◌, ◌≤◌, Bool, true, false, List, [], ◌∷◌, ◌++◌, length}
+use Rattle.std.proofs.Common.{take, drop, Option, Some, None, Result, Ok, Err, refl, sym, ap, ◌∙◌, arith, append_assoc}
 use Rattle.std.specs.Prelude.{cond, find, if◌then◌else◌}
 use Rattle.std.specs.Option.{option_or}
 use Rattle.std.proofs.lemmas.List.{append-nil, drop-drop, drop_all, length-append, length-drop}
@@ -32,10 +33,12 @@ some-same e = cc
 pub spelled-vex : VexOpcodes → (bytes : List ℕ) (m : Meaning) → Spells bytes m → is_vex m.opcode ≡ true
 unfolding gives
 spelled-vex vex bytes m spells =
-    ap (λ (n : Meaning). is_vex n.opcode) spells.by.means ∙ (vex (opcode_of spells.row)).1 (spells.row, spells.is_row, refl)
+    ap (λ (n : Meaning). is_vex n.opcode) spells.by.means
+    ∙ (vex (opcode_of spells.row)).1 (spells.row, spells.is_row, refl)
 
 -- a decoded instruction that isn't unmarked is marked
-pub marked-unless : (first : Result Decoded DecodeError) (decoded : Decoded) → first ≡ Ok decoded → (decoded.meaning.evex ≡ false → ⊥)
+pub marked-unless : (first : Result Decoded DecodeError) (decoded : Decoded) → first ≡ Ok decoded
+    → (decoded.meaning.evex ≡ false → ⊥)
     → cause_of first ≡ Some Marked
 marked-unless first decoded is not = ap cause_of is ∙ by decoded.meaning.evex refl where
   by : (b : Bool) → decoded.meaning.evex ≡ b → (if b then Some Marked else None) ≡ Some Marked
@@ -46,12 +49,15 @@ marked-unless first decoded is not = ap cause_of is ∙ by decoded.meaning.evex 
 pub after : List SweptItem → Swept → Swept
 after items swept = record { items = items ++ swept.items; end = swept.end }
 
-after-push : (items : List SweptItem) (item : SweptItem) (swept : Swept) → after items (onto item swept) ≡ after (items ++ item ∷ []) swept
+after-push : (items : List SweptItem) (item : SweptItem) (swept : Swept)
+    → after items (onto item swept) ≡ after (items ++ item ∷ []) swept
 unfolding after
-after-push items item swept = ap (λ (is : List SweptItem). record { items = is; end = swept.end }) (sym (append_assoc items (item ∷ []) swept.items))
+after-push items item swept = ap (λ (is : List SweptItem). record { items = is; end = swept.end })
+    (sym (append_assoc items (item ∷ []) swept.items))
 
 -- the fault of a run that goes on after unmarked instructions with a fault
-stops-at : (items : List SweptItem) (place : ℕ) (rest : List ℕ) (cause : RunCause) → find is_marked items ≡ None → 0 < length rest
+stops-at : (items : List SweptItem) (place : ℕ) (rest : List ℕ) (cause : RunCause) → find is_marked items ≡ None
+    → 0 < length rest
     → cause_of (first_of_bytes all_bits rest) ≡ Some cause
     → fault (after items (swept_from all_bits 0 place rest)) ≡ Some (record { place = place; cause = cause })
 unfolding after swept_from
@@ -64,16 +70,19 @@ stops-at items place (b ∷ bs) cause unmarked some is = by (first_of_bytes all_
   found more = find-append is_marked items more ∙ ap (λ o. option_or o (find is_marked more)) unmarked
 
   at : (decoded : Decoded) (p : Bool) → (if p then Some Marked else None) ≡ Some cause
-      → fault_by (cond p (Some (item_at place (b ∷ bs) decoded)) (find is_marked (go decoded).items)) (go decoded).end ≡ Some (record { place = place; cause = cause })
+      → fault_by (cond p (Some (item_at place (b ∷ bs) decoded)) (find is_marked (go decoded).items)) (go decoded).end
+      ≡ Some (record { place = place; cause = cause })
   at decoded true is = ap (λ (c : RunCause). Some (record { place = place; cause = c })) (some-same is)
   at decoded false is = cc
 
   by : (first : Result Decoded DecodeError) → cause_of first ≡ Some cause
       → fault (after items (swept_by place (b ∷ bs) go first)) ≡ Some (record { place = place; cause = cause })
   by (Err error) is =
-      ap (λ o. fault_by o (Stopped place error)) (found []) ∙ ap (λ (c : RunCause). Some (record { place = place; cause = c })) (some-same is)
+      ap (λ o. fault_by o (Stopped place error)) (found [])
+      ∙ ap (λ (c : RunCause). Some (record { place = place; cause = c })) (some-same is)
   by (Ok decoded) is =
-      ap (λ o. fault_by o (go decoded).end) (found (item_at place (b ∷ bs) decoded ∷ (go decoded).items)) ∙ at decoded decoded.meaning.evex is
+      ap (λ o. fault_by o (go decoded).end) (found (item_at place (b ∷ bs) decoded ∷ (go decoded).items))
+      ∙ at decoded decoded.meaning.evex is
 
 -- the bytes before a place were gone through: their instructions are unmarked, and their first places were noted
 pub record Checking (bytes : List ℕ) (found : FirstPlaces) (place count : ℕ) : Type 0 where
@@ -89,11 +98,21 @@ module _ (bytes : List ℕ) where
   pub checking-first : (found : FirstPlaces) → found ≡ first_places [] → Checking bytes found 0 0
   unfolding after
   checking-first found is =
-      record { items = []; within = omega arith; same = refl; unmarked = refl; number = refl; few = omega arith; noted = is }
+      record {
+        items = [];
+        within = omega arith;
+        same = refl;
+        unmarked = refl;
+        number = refl;
+        few =
+            omega arith;
+        noted = is;
+      }
 
   module _ (found : FirstPlaces) (place count : ℕ) (so_far : Checking bytes found place count) where
     -- a further instruction
-    pub checking-step : (decoded : Decoded) (more : FirstPlaces) → first_of_bytes all_bits (drop place bytes) ≡ Ok decoded
+    pub checking-step : (decoded : Decoded) (more : FirstPlaces)
+        → first_of_bytes all_bits (drop place bytes) ≡ Ok decoded
         → decoded.meaning.evex ≡ false → 1 ≤ decoded.len → decoded.len ≤ length (drop place bytes)
         → more ≡ noted (is_set (exactly (least decoded.meaning.opcode))) place decoded.meaning.opcode found
         → Checking bytes more (place + decoded.len) (count + 1)
@@ -107,22 +126,26 @@ module _ (bytes : List ℕ) where
               so_far.same
               ∙ ap (after so_far.items) (from-step all_bits place (drop place bytes) decoded first some fits)
               ∙ after-push so_far.items item _
-              ∙ ap (λ rest. after (so_far.items ++ item ∷ []) (swept_from all_bits 0 (place + n) rest)) (drop-drop n place bytes);
+              ∙ ap (λ rest. after (so_far.items ++ item ∷ []) (swept_from all_bits 0 (place + n) rest))
+              (drop-drop n place bytes);
           unmarked =
               find-append is_marked so_far.items (item ∷ [])
               ∙ ap (λ o. option_or o (find is_marked (item ∷ []))) so_far.unmarked
               ∙ ap (λ b. cond b (Some item) None) unmarked;
           number = ap (λ k. k + 1) so_far.number ∙ sym (length-append so_far.items (item ∷ []));
           few = omega (arith, some, so_far.few);
-          noted = is ∙ ap (noted (is_set (exactly (least decoded.meaning.opcode))) place decoded.meaning.opcode) so_far.noted ∙ places-push so_far.items item;
+          noted = is ∙ ap (noted (is_set (exactly (least decoded.meaning.opcode))) place decoded.meaning.opcode)
+              so_far.noted ∙ places-push so_far.items item;
         }
 
     -- the fault there
-    pub checking-fault : (cause : RunCause) → place < length bytes → cause_of (first_of_bytes all_bits (drop place bytes)) ≡ Some cause
+    pub checking-fault : (cause : RunCause) → place < length bytes
+        → cause_of (first_of_bytes all_bits (drop place bytes)) ≡ Some cause
         → fault (run bytes) ≡ Some (record { place = place; cause = cause })
     checking-fault cause some is =
         ap fault so_far.same
-        ∙ stops-at so_far.items place (drop place bytes) cause so_far.unmarked (omega (arith, some, length-drop place bytes)) is
+        ∙ stops-at so_far.items place (drop place bytes) cause so_far.unmarked
+        (omega (arith, some, length-drop place bytes)) is
 
     module _ (all : length bytes ≤ place) where
       -- the whole run, where no byte is left
@@ -141,7 +164,8 @@ module _ (bytes : List ℕ) where
 
       pub checking-least : bits_there found ≡ all_needed (run bytes).items
       checking-least =
-          ap bits_there so_far.noted ∙ sym (needed-there so_far.items) ∙ sym (ap (λ (s : Swept). all_needed s.items) whole)
+          ap bits_there so_far.noted ∙ sym (needed-there so_far.items)
+          ∙ sym (ap (λ (s : Swept). all_needed s.items) whole)
 
       pub checking-firsts : all_there found ≡ firsts (run bytes).items
       checking-firsts =

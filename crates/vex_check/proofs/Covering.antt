@@ -1,5 +1,6 @@
 -- The test whether settings have every bit of others.
-use Rattle.std.proofs.Common.{◌≡◌, ℕ, zero, suc, ◌+◌, ◌<◌, ◌≤◌, Bool, true, false, not, ◌||◌, List, length, IsTrue, arith, refl, sym, ap, ◌∙◌, inl, inr, zero-add, add-zero}
+use Rattle.std.proofs.Common.{◌≡◌, ℕ, zero, suc, ◌+◌, ◌<◌, ◌≤◌, Bool, true, false, not, ◌||◌, List, length, IsTrue}
+use Rattle.std.proofs.Common.{arith, refl, sym, ap, ◌∙◌, inl, inr, zero-add, add-zero}
 use Rattle.std.specs.Prelude.{◌↔◌}
 use Rattle.std.specs.List.{list_all, range_with_len}
 use Rattle.std.proofs.lemmas.Bool.{and_from, and_parts, cases_lt}
@@ -43,12 +44,14 @@ to-within settings wanted all i h = elim (cases_lt i (length wanted)) [
   | inl below ↦
       let e = zero-add i in
       let test = all-in (λ bit. not (is_set wanted bit) || is_set settings bit) (length wanted) 0 i all below in
-      of-either (is_set wanted i) (is_set settings i) (ap (λ j. not (is_set wanted j) || is_set settings j) (sym e) ∙ test) h
+      of-either (is_set wanted i) (is_set settings i)
+      (ap (λ j. not (is_set wanted j) || is_set settings j) (sym e) ∙ test) h
   | inr above ↦ absurd (false-is-not-true (sym (get_or_past wanted i false above) ∙ h))
 ]
 
 -- the answer to whether settings have every bit is the test
-pub covers-decided : (settings wanted : List Bool) (answer : Bool) → IsTrue answer ↔ AreWithin wanted settings → answer ≡ covers settings wanted
+pub covers-decided : (settings wanted : List Bool) (answer : Bool) → IsTrue answer ↔ AreWithin wanted settings
+    → answer ≡ covers settings wanted
 covers-decided settings wanted true is = sym (from-within settings wanted (is.0 refl))
 covers-decided settings wanted false is = by (covers settings wanted) refl where
   by : (b : Bool) → covers settings wanted ≡ b → false ≡ b

@@ -1,5 +1,6 @@
 -- A sweep under any settings, by the sweep under all: it is stopped at the first instruction that isn't permitted.
-use Rattle.std.proofs.Common.{◌≡◌, ℕ, zero, suc, ◌+◌, ◌-◌, ◌<◌, ◌≤◌, Bool, true, false, not, List, [], ◌∷◌, Option, Some, None, Result, Ok, Err, refl, sym, ap, ◌∙◌, arith, le_refl}
+use Rattle.std.proofs.Common.{◌≡◌, ℕ, zero, suc, ◌+◌, ◌-◌, ◌<◌, ◌≤◌, Bool, true, false, not, List, [], ◌∷◌, Option}
+use Rattle.std.proofs.Common.{Some, None, Result, Ok, Err, refl, sym, ap, ◌∙◌, arith, le_refl}
 use Rattle.std.specs.Prelude.{All, cond, find, if◌then◌else◌}
 use Rattle.std.proofs.lemmas.List.Elements.{All-cons, All-nil}
 use Rattle.x86_opcode.specs.declared.Opcode.{Opcode}
@@ -21,7 +22,8 @@ use Rattle.vex_decode.specs.Blocked.{refused}
 use Rattle.vex_decode.specs.Laws.{ReadingIsSpelling, VexOpcodes}
 use Rattle.vex_encode.specs.declared.sweeper.SweepEnd.{SweepEnd}
 use Rattle.vex_encode.specs.declared.sweeper.SweepEnd.TheVariants.{Stopped}
-use Rattle.vex_encode.specs.Sweep.{Swept, SweptItem, decoded_by, decoded_unless, first_of_bytes, item_at, onto, swept_by, swept_from}
+use Rattle.vex_encode.specs.Sweep.{Swept, SweptItem, decoded_by, decoded_unless, first_of_bytes, item_at, onto}
+use Rattle.vex_encode.specs.Sweep.{swept_by, swept_from}
 use Rattle.vex_check.proofs.Places.{Ascend, ascend-from}
 
 -- whether settings permit an instruction of a run
@@ -32,7 +34,8 @@ is_permitted settings item = permits settings item.decoded.meaning.evex item.dec
 
 -- what a decode takes, unless the settings don't permit it
 refuse : List Bool → Result Decoded DecodeError → Result Decoded DecodeError
-refuse settings (Ok decoded) = if permits settings decoded.meaning.evex decoded.meaning.opcode then Ok decoded else Err InvalidOpcode
+refuse settings (Ok decoded) = if permits settings decoded.meaning.evex decoded.meaning.opcode then Ok decoded else Err
+    InvalidOpcode
 refuse settings (Err error) = Err error
 
 first-walked : (settings : List Bool) (bytes : List ℕ) (r : Reading (Row × Syntax)) → walk bytes ≡ r
@@ -40,11 +43,13 @@ first-walked : (settings : List Bool) (bytes : List ℕ) (r : Reading (Row × Sy
 unfolding first_of_bytes refuse gives
 first-walked settings bytes (Err error) is = ap (λ r. decoded_unless (refused settings bytes r) bytes) is
 first-walked settings bytes (Ok read) is =
-    ap (λ r. decoded_unless (refused settings bytes r) bytes) is ∙ by (permits settings (mark_of read.0.0) (opcode_of read.0.0)) where
+    ap (λ r. decoded_unless (refused settings bytes r) bytes) is
+    ∙ by (permits settings (mark_of read.0.0) (opcode_of read.0.0)) where
       decoded : Result Decoded DecodeError
       decoded = decoded_by bytes (Ok read)
 
-      by : (b : Bool) → decoded_unless (if b then None else Some (InvalidOpcode, taken bytes read.1)) bytes ≡ (if b then decoded else Err InvalidOpcode)
+      by : (b : Bool) → decoded_unless (if b then None else Some (InvalidOpcode, taken bytes read.1)) bytes
+          ≡ (if b then decoded else Err InvalidOpcode)
       by true = ap (decoded_by bytes) is
       by false = refl
 
@@ -53,9 +58,12 @@ first-any : AllSettingsPermitAll → (settings : List Bool) (bytes : List ℕ)
     → first_of_bytes settings bytes ≡ refuse settings (first_of_bytes all_bits bytes)
 unfolding refuse
 first-any all settings bytes =
-    first-walked settings bytes (walk bytes) refl ∙ ap (refuse settings) (sym (first-walked all_bits bytes (walk bytes) refl ∙ kept (decoded_by bytes (walk bytes)))) where
+    first-walked settings bytes (walk bytes) refl
+    ∙ ap (refuse settings) (sym (first-walked all_bits bytes (walk bytes) refl
+    ∙ kept (decoded_by bytes (walk bytes)))) where
       kept : (r : Result Decoded DecodeError) → refuse all_bits r ≡ r
-      kept (Ok decoded) = ap (λ b. if b then Ok decoded else Err InvalidOpcode) (all decoded.meaning.evex decoded.meaning.opcode)
+      kept (Ok decoded) = ap (λ b. if b then Ok decoded else Err InvalidOpcode)
+          (all decoded.meaning.evex decoded.meaning.opcode)
       kept (Err error) = refl
 
 -- ---- a whole run
@@ -75,36 +83,48 @@ unfolding swept_from refuse
 end-cut all settings k place [] = refl
 end-cut all settings (suc k) place (b ∷ bs) = end-cut all settings k (place + 1) bs
 end-cut all settings zero place (b ∷ bs) =
-    ap (λ first. (swept_by place (b ∷ bs) (λ decoded. swept_from settings (decoded.len - 1) (place + 1) bs) first).end) (first-any all settings (b ∷ bs))
+    ap (λ first. (swept_by place (b ∷ bs) (λ decoded. swept_from settings (decoded.len - 1) (place + 1) bs) first).end)
+    (first-any all settings (b ∷ bs))
     ∙ by (first_of_bytes all_bits (b ∷ bs)) (λ decoded. end-cut all settings (decoded.len - 1) (place + 1) bs) where
       go : List Bool → Decoded → Swept
       go s decoded = swept_from s (decoded.len - 1) (place + 1) bs
 
-      permitted : (decoded : Decoded) (p : Bool) → permits settings decoded.meaning.evex decoded.meaning.opcode ≡ p → (go settings decoded).end ≡ cut_end settings (go all_bits decoded)
+      permitted : (decoded : Decoded) (p : Bool) → permits settings decoded.meaning.evex decoded.meaning.opcode ≡ p
+          → (go settings decoded).end ≡ cut_end settings (go all_bits decoded)
           → (swept_by place (b ∷ bs) (go settings) (if p then Ok decoded else Err InvalidOpcode)).end
-          ≡ end_at (cond (not p) (Some (item_at place (b ∷ bs) decoded)) (find (λ item. not (is_permitted settings item)) (go all_bits decoded).items)) (go all_bits decoded).end
+          ≡ end_at (cond (not p) (Some (item_at place (b ∷ bs) decoded))
+          (find (λ item. not (is_permitted settings item)) (go all_bits decoded).items)) (go all_bits decoded).end
       permitted decoded true e later = later
       permitted decoded false e later = refl
 
-      by : (first : Result Decoded DecodeError) → ((decoded : Decoded) → (go settings decoded).end ≡ cut_end settings (go all_bits decoded))
-          → (swept_by place (b ∷ bs) (go settings) (refuse settings first)).end ≡ cut_end settings (swept_by place (b ∷ bs) (go all_bits) first)
+      by : (first : Result Decoded DecodeError)
+          → ((decoded : Decoded) → (go settings decoded).end ≡ cut_end settings (go all_bits decoded))
+          → (swept_by place (b ∷ bs) (go settings) (refuse settings first)).end
+          ≡ cut_end settings (swept_by place (b ∷ bs) (go all_bits) first)
       by (Err error) later = refl
-      by (Ok decoded) later = permitted decoded (permits settings decoded.meaning.evex decoded.meaning.opcode) refl (later decoded)
+      by (Ok decoded) later = permitted decoded (permits settings decoded.meaning.evex decoded.meaning.opcode) refl
+          (later decoded)
 
 -- the instructions of a run ascend
-pub run-ascends : (settings : List Bool) (k place : ℕ) (bytes : List ℕ) → Ascend place (swept_from settings k place bytes).items
+pub run-ascends : (settings : List Bool) (k place : ℕ) (bytes : List ℕ)
+    → Ascend place (swept_from settings k place bytes).items
 unfolding swept_from
 run-ascends settings k place [] = tt
 run-ascends settings (suc k) place (b ∷ bs) =
-    ascend-from (place + 1) place (swept_from settings k (place + 1) bs).items (omega arith) (run-ascends settings k (place + 1) bs)
-run-ascends settings zero place (b ∷ bs) = by (first_of_bytes settings (b ∷ bs)) (λ decoded. run-ascends settings (decoded.len - 1) (place + 1) bs) where
-  go : Decoded → Swept
-  go decoded = swept_from settings (decoded.len - 1) (place + 1) bs
+    ascend-from (place + 1) place (swept_from settings k (place + 1) bs).items (omega arith)
+    (run-ascends settings k (place + 1) bs)
+run-ascends settings zero place (b ∷ bs) =
+    by (first_of_bytes settings (b ∷ bs)) (λ decoded. run-ascends settings (decoded.len - 1) (place + 1) bs) where
+      go : Decoded → Swept
+      go decoded = swept_from settings (decoded.len - 1) (place + 1) bs
 
-  by : (first : Result Decoded DecodeError) → ((decoded : Decoded) → Ascend (place + 1) (go decoded).items)
-      → Ascend place (swept_by place (b ∷ bs) go first).items
-  by (Err error) later = tt
-  by (Ok decoded) later = (le_refl place, ascend-from (place + 1) place (go decoded).items (omega arith) (later decoded))
+      by : (first : Result Decoded DecodeError) → ((decoded : Decoded) → Ascend (place + 1) (go decoded).items)
+          → Ascend place (swept_by place (b ∷ bs) go first).items
+      by (Err error) later = tt
+      by (Ok decoded) later = (
+        le_refl place,
+        ascend-from (place + 1) place (go decoded).items (omega arith) (later decoded),
+      )
 
 -- an instruction's opcode is a VEX opcode
 abbrev pub IsVex : SweptItem → Type 0
@@ -115,22 +135,25 @@ opcode_or other (Ok decoded) = decoded.meaning.opcode
 opcode_or other (Err error) = other
 
 -- what a decode takes
-first-vex : ReadingIsSpelling → VexOpcodes → (settings : List Bool) (bytes : List ℕ) → IsBytes bytes → (decoded : Decoded)
+first-vex : ReadingIsSpelling → VexOpcodes → (settings : List Bool) (bytes : List ℕ) → IsBytes bytes
+    → (decoded : Decoded)
     → first_of_bytes settings bytes ≡ Ok decoded → is_vex decoded.meaning.opcode ≡ true
 unfolding refuse gives opcode_or
-first-vex read vex settings bytes is decoded e = by (walk bytes) refl (sym (first-walked settings bytes (walk bytes) refl) ∙ e) where
-  same : (r : Result Decoded DecodeError) (p : Bool) → is_vex (opcode_or decoded.meaning.opcode r) ≡ true
-      → (if p then r else Err InvalidOpcode) ≡ Ok decoded → is_vex decoded.meaning.opcode ≡ true
-  same r true some e = ap (λ r. is_vex (opcode_or decoded.meaning.opcode r)) (sym e) ∙ some
-  same r false some e = cc
+first-vex read vex settings bytes is decoded e =
+    by (walk bytes) refl (sym (first-walked settings bytes (walk bytes) refl) ∙ e) where
+      same : (r : Result Decoded DecodeError) (p : Bool) → is_vex (opcode_or decoded.meaning.opcode r) ≡ true
+          → (if p then r else Err InvalidOpcode) ≡ Ok decoded → is_vex decoded.meaning.opcode ≡ true
+      same r true some e = ap (λ r. is_vex (opcode_or decoded.meaning.opcode r)) (sym e) ∙ some
+      same r false some e = cc
 
-  by : (r : Reading (Row × Syntax)) → walk bytes ≡ r → refuse settings (decoded_by bytes r) ≡ Ok decoded → is_vex decoded.meaning.opcode ≡ true
-  by (Err error) w e = cc
-  by (Ok read_as) w e =
-      let row = read_as.0.0 in
-      let begins = (read bytes row read_as.0.1 read_as.1 is).0 w in
-      let some : is_vex (opcode_of row) ≡ true = (vex (opcode_of row)).1 (row, begins.is_row, refl) in
-      same (decoded_by bytes (Ok read_as)) (permits settings (mark_of row) (opcode_of row)) some e
+      by : (r : Reading (Row × Syntax)) → walk bytes ≡ r → refuse settings (decoded_by bytes r) ≡ Ok decoded
+          → is_vex decoded.meaning.opcode ≡ true
+      by (Err error) w e = cc
+      by (Ok read_as) w e =
+          let row = read_as.0.0 in
+          let begins = (read bytes row read_as.0.1 read_as.1 is).0 w in
+          let some : is_vex (opcode_of row) ≡ true = (vex (opcode_of row)).1 (row, begins.is_row, refl) in
+          same (decoded_by bytes (Ok read_as)) (permits settings (mark_of row) (opcode_of row)) some e
 
 pub run-vex : ReadingIsSpelling → VexOpcodes → (settings : List Bool) (k place : ℕ) (bytes : List ℕ) → IsBytes bytes
     → All IsVex (swept_from settings k place bytes).items
@@ -138,12 +161,15 @@ unfolding swept_from
 run-vex read vex settings k place [] is = All-nil IsVex
 run-vex read vex settings (suc k) place (b ∷ bs) is = run-vex read vex settings k (place + 1) bs is.1
 run-vex read vex settings zero place (b ∷ bs) is =
-    by (first_of_bytes settings (b ∷ bs)) refl (λ decoded. run-vex read vex settings (decoded.len - 1) (place + 1) bs is.1) where
+    by (first_of_bytes settings (b ∷ bs)) refl
+    (λ decoded. run-vex read vex settings (decoded.len - 1) (place + 1) bs is.1) where
       go : Decoded → Swept
       go decoded = swept_from settings (decoded.len - 1) (place + 1) bs
 
-      by : (first : Result Decoded DecodeError) → first_of_bytes settings (b ∷ bs) ≡ first → ((decoded : Decoded) → All IsVex (go decoded).items)
+      by : (first : Result Decoded DecodeError) → first_of_bytes settings (b ∷ bs) ≡ first
+          → ((decoded : Decoded) → All IsVex (go decoded).items)
           → All IsVex (swept_by place (b ∷ bs) go first).items
       by (Err error) e later = All-nil IsVex
       by (Ok decoded) e later =
-          All-cons IsVex (item_at place (b ∷ bs) decoded) (go decoded).items (first-vex read vex settings (b ∷ bs) is decoded e) (later decoded)
+          All-cons IsVex (item_at place (b ∷ bs) decoded) (go decoded).items
+          (first-vex read vex settings (b ∷ bs) is decoded e) (later decoded)

@@ -12,7 +12,8 @@ use Rattle.vex_check.specs.Needs.{all_needed, fault, firsts, run}
 
 -- whether settings have every bit that is wanted, as `AreWithin` says it of the two
 unfoldable pub covers : List Bool → List Bool → Bool
-covers settings wanted = list_all (λ bit. not (is_set wanted bit) || is_set settings bit) (range_with_len 0 (length wanted))
+covers settings wanted = list_all (λ bit. not (is_set wanted bit) || is_set settings bit)
+    (range_with_len 0 (length wanted))
 
 -- a sweep under any settings ends after all bytes exactly where the settings have every bit that is wanted
 abbrev pub EndsWhereCovered : List ℕ → List Bool → Type 0
@@ -34,13 +35,15 @@ pub record StopsAtLack (settings : List Bool) (bytes : List ℕ) (firsts : List 
 
 -- a sweep under settings that lack a bit that is wanted is stopped at the first place that needs such a bit
 abbrev pub StopsAtLeastLack : List ℕ → List Bool → List First → Type 0
-StopsAtLeastLack bytes wanted firsts = (settings : List Bool) → (AreWithin wanted settings → ⊥) → StopsAtLack settings bytes firsts
+StopsAtLeastLack bytes wanted firsts = (settings : List Bool) → (AreWithin wanted settings → ⊥)
+    → StopsAtLack settings bytes firsts
 
 -- ---- the law of runs
 
 -- where a run has no fault, the bits that its instructions need say under which settings its sweep ends
 abbrev pub NeedsSayWhoAccepts : Type 0
-NeedsSayWhoAccepts = (bytes : List ℕ) → IsBytes bytes → fault (run bytes) ≡ None → EndsWhereCovered bytes (all_needed (run bytes).items)
+NeedsSayWhoAccepts = (bytes : List ℕ) → IsBytes bytes → fault (run bytes) ≡ None
+    → EndsWhereCovered bytes (all_needed (run bytes).items)
 
 -- and the first places that need them say where its sweep is stopped under all others
 abbrev pub NeedsSayWhereOthersStop : Type 0

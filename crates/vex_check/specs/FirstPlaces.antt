@@ -18,7 +18,8 @@ to_list (Some first) = first ∷ []
 
 -- the first place that needs a bit, once a further place is looked at that needs such bits
 abbrev pub kept : (ℕ → Bool) → ℕ → Opcode → ℕ → Option First → Option First
-kept needed place opcode bit first = option_or first (if needed bit then Some (record { bit = bit; place = place; opcode = opcode }) else None)
+kept needed place opcode bit first = option_or first
+    (if needed bit then Some (record { bit = bit; place = place; opcode = opcode }) else None)
 
 -- the first places once a further place is looked at
 abbrev pub noted : (ℕ → Bool) → ℕ → Opcode → FirstPlaces → FirstPlaces
@@ -32,7 +33,8 @@ noted needed place opcode found = record {
 
 -- the places that are there, in ascending order of their bits
 abbrev pub all_there : FirstPlaces → List First
-all_there found = to_list found.aesni ++ (to_list found.avx ++ (to_list found.bmi1 ++ (to_list found.bmi2 ++ to_list found.f16c)))
+all_there found = to_list found.aesni ++
+    (to_list found.avx ++ (to_list found.bmi1 ++ (to_list found.bmi2 ++ to_list found.f16c)))
 
 -- a bit, where its place is there
 abbrev pub with_bit_of : Option First → ℕ → List Bool → List Bool
@@ -41,7 +43,8 @@ with_bit_of first bit settings = if is_some first then with_set settings bit els
 -- the settings with the bits whose places are there
 abbrev pub bits_there : FirstPlaces → List Bool
 bits_there found =
-    with_bit_of found.f16c f16c (with_bit_of found.bmi2 bmi2 (with_bit_of found.bmi1 bmi1 (with_bit_of found.avx avx (with_bit_of found.aesni aesni no_bits))))
+    with_bit_of found.f16c f16c (with_bit_of found.bmi2 bmi2
+    (with_bit_of found.bmi1 bmi1 (with_bit_of found.avx avx (with_bit_of found.aesni aesni no_bits))))
 
 -- ---- the fault of an instruction
 

@@ -40,8 +40,8 @@ fn first_needs(bytes: &[u8]) -> Result<(Instruction, InstDecoder), RunCause>
     }
 }
 
-/// What a run of instructions needs: bytes that are decoded one instruction after another under all settings, until none
-/// is left. It takes no memory.
+/// What a run of instructions needs: bytes that are decoded one instruction after another under all settings, until
+/// none is left. It takes no memory.
 ///
 /// The fault is the first place where the rest is refused (`Blocked`, with the error), or where the instruction has the
 /// EVEX mark (`Marked`).

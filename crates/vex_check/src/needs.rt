@@ -21,8 +21,8 @@ pub struct First {
 pub struct Needs {
     /// The bits that its instructions need, and no other.
     pub least: InstDecoder,
-    /// The first instruction that needs each of these bits, in ascending order of the bits. The instructions in VEX form
-    /// need five bits at most: `aesni`, `avx`, `bmi1`, `bmi2` and `f16c`.
+    /// The first instruction that needs each of these bits, in ascending order of the bits. The instructions in VEX
+    /// form need five bits at most: `aesni`, `avx`, `bmi1`, `bmi2` and `f16c`.
     pub firsts: ArrayVec<First, 5>,
     /// How many instructions there are.
     pub count: usize,

@@ -1,5 +1,6 @@
 -- Which addresses bytes can name: those whose base and index fit.
-use Rattle.std.proofs.Common.{◌≡◌, inr, ℕ, ◌+◌, ◌*◌, ◌<◌, ◌≤◌, Bool, true, false, List, ◌∷◌, length, Option, Some, None, FitsSigned, w32, refl, sym, ap, ◌∙◌, subst, arith}
+use Rattle.std.proofs.Common.{◌≡◌, inr, ℕ, ◌+◌, ◌*◌, ◌<◌, ◌≤◌, Bool, true, false, List, ◌∷◌, length, Option, Some, None}
+use Rattle.std.proofs.Common.{FitsSigned, w32, refl, sym, ap, ◌∙◌, subst, arith}
 use Rattle.x86_operand.specs.declared.register.RegisterBank.{RegisterBank}
 use Rattle.x86_operand.specs.declared.register.RegisterBank.TheVariants.{Q, D, X, Y, Z, RIP}
 use Rattle.x86_operand.specs.declared.address.Address.{Address}
@@ -7,8 +8,11 @@ use Rattle.x86_operand.specs.declared.address.Index.{Index}
 use Rattle.x86_operand.specs.Register.{Register}
 use Rattle.x86_operand.specs.Kind.{Kind, InMemory, VectorIndexed, is_vector, plain_kind, memory_kind}
 use Rattle.x86_address.specs.Bytes.{Displacement, Absent, Short, Long}
-use Rattle.x86_address.specs.Place.{Place, NoPlace, Direct, Based, RipBased, Scaled, Baseless, IsPlace, kind_of, mod_of_displacement, mod_of, rm_of, tail_of, place_bytes, Base, NoBase, Rip, Numbered, PlainAddress, At}
-use Rattle.x86_address.specs.Shortest.{plain, plain_base, plain_index, base_in, base_register, index_register, shortest, x_of, b_of, IsBase, IsIndex, IsSpellableAddress}
+use Rattle.x86_address.specs.Place.{Place, NoPlace, Direct, Based, RipBased, Scaled, Baseless, IsPlace, kind_of}
+use Rattle.x86_address.specs.Place.{mod_of_displacement, mod_of, rm_of, tail_of, place_bytes, Base, NoBase, Rip}
+use Rattle.x86_address.specs.Place.{Numbered, PlainAddress, At}
+use Rattle.x86_address.specs.Shortest.{plain, plain_base, plain_index, base_in, base_register, index_register, shortest}
+use Rattle.x86_address.specs.Shortest.{x_of, b_of, IsBase, IsIndex, IsSpellableAddress}
 use Rattle.x86_address.specs.Spells.{SpellsAddress, BankFits, BaseFits, IndexFits, HasModRM}
 use Rattle.x86_address.specs.Spells.Laws.{scale_of_power}
 use Rattle.x86_address.specs.Place.Laws.{place_bytes_split, rm_of_below}
@@ -16,12 +20,15 @@ use Rattle.x86_address.specs.Shortest.Laws.{is_place-shortest, kind_of-shortest,
 use Rattle.x86_address.proofs.Spelling.{only_spellable, shortest_spells, shortest_is_least}
 
 -- an index that fits is in bank Q
-index_again : (vector : Bool) (index : Option Index) → IndexFits vector index → index_register Q (plain_index index) ≡ index
+index_again : (vector : Bool) (index : Option Index) → IndexFits vector index
+    → index_register Q (plain_index index) ≡ index
 index_again vector None fits = refl
-index_again vector (Some index) fits = ap (λ bank. Some (record { reg = record { bank = bank; num = index.reg.num }; scale = index.scale })) (sym fits.0)
+index_again vector (Some index) fits = ap
+    (λ bank. Some (record { reg = record { bank = bank; num = index.reg.num }; scale = index.scale })) (sym fits.0)
 
 -- with the instruction pointer there is no index
-alone : (base : Option Register) (index : Option Index) → BaseFits base index → plain_base base ≡ Rip → plain_index index ≡ None
+alone : (base : Option Register) (index : Option Index) → BaseFits base index → plain_base base ≡ Rip
+    → plain_index index ≡ None
 alone None index fits h = cc
 alone (Some reg) index fits h = by_bank reg.bank reg.num fits h
   where
@@ -34,42 +41,60 @@ alone (Some reg) index fits h = by_bank reg.bank reg.num fits h
     by_bank Z num fits h = absurd fits
 
 -- an address whose base and index fit is spelled by the bytes of its shortest place
-spelled_of_kind : (kind : Kind) (a : Address) → InMemory ≡ plain_kind kind → a.base ≡ base_register (plain_base a.base) → IsBase (plain_base a.base) → IsIndex (is_vector kind) (plain_index a.index) → FitsSigned w32 a.disp → BaseFits a.base a.index → IndexFits (is_vector kind) a.index → SpellsAddress (place_bytes 0 (shortest (At (plain a)))) kind 0 (x_of (At (plain a))) (b_of (At (plain a))) a
+spelled_of_kind : (kind : Kind) (a : Address) → InMemory ≡ plain_kind kind → a.base ≡ base_register (plain_base a.base)
+    → IsBase (plain_base a.base) → IsIndex (is_vector kind) (plain_index a.index) → FitsSigned w32 a.disp
+    → BaseFits a.base a.index → IndexFits (is_vector kind) a.index
+    → SpellsAddress (place_bytes 0 (shortest (At (plain a)))) kind 0 (x_of (At (plain a))) (b_of (At (plain a))) a
 spelled_of_kind kind a memory bank base index disp base_fits index_fits = record {
   plain_address = plain a;
-  spells = shortest_spells kind 0 (At (plain a)) (omega arith) memory (record { base = base; index = index; disp = disp; alone = alone a.base a.index base_fits });
+  spells = shortest_spells kind 0 (At (plain a)) (omega arith) memory
+      (record { base = base; index = index; disp = disp; alone = alone a.base a.index base_fits });
   banks = λ i. record { base = bank i; index = sym (index_again (is_vector kind) a.index index_fits) i; disp = a.disp };
 }
 
-pub spelled : (vector : Bool) (a : Address) → a.base ≡ base_register (plain_base a.base) → IsBase (plain_base a.base) → IsIndex vector (plain_index a.index) → FitsSigned w32 a.disp → BaseFits a.base a.index → IndexFits vector a.index → SpellsAddress (place_bytes 0 (shortest (At (plain a)))) (memory_kind vector) 0 (x_of (At (plain a))) (b_of (At (plain a))) a
+pub spelled : (vector : Bool) (a : Address) → a.base ≡ base_register (plain_base a.base) → IsBase (plain_base a.base)
+    → IsIndex vector (plain_index a.index) → FitsSigned w32 a.disp → BaseFits a.base a.index → IndexFits vector a.index
+    → SpellsAddress (place_bytes 0 (shortest (At (plain a)))) (memory_kind vector) 0 (x_of (At (plain a)))
+    (b_of (At (plain a))) a
 spelled false a = spelled_of_kind InMemory a refl
 spelled true a = spelled_of_kind VectorIndexed a refl
 
 -- a base that gets its bank fits
-base_given : (base : Base) (index : Option (ℕ × ℕ)) → (base ≡ Rip → index ≡ None) → BaseFits (base_register base) (index_register Q index)
+base_given : (base : Base) (index : Option (ℕ × ℕ)) → (base ≡ Rip → index ≡ None)
+    → BaseFits (base_register base) (index_register Q index)
 base_given NoBase index alone = tt
 base_given Rip index alone = ap (index_register Q) (alone refl)
 base_given (Numbered n) index alone = tt
 
 -- an index in range that gets bank Q fits
-index_given : (vector : Bool) (index : Option (ℕ × ℕ)) → IsIndex vector index → IndexFits vector (index_register Q index)
+index_given : (vector : Bool) (index : Option (ℕ × ℕ)) → IsIndex vector index
+    → IndexFits vector (index_register Q index)
 index_given vector None ok = ok
 index_given vector (Some index) ok = (refl, ok.1, scale_of_power index.1 (ok.2, ok.3, ok.4))
 
 -- an address that bytes spell has a base and an index that fit
-spelled_fits_kind : (bytes : List ℕ) (kind : Kind) (reg : ℕ) (x b : Bool) (a : Address) → SpellsAddress bytes kind reg x b a → BaseFits a.base a.index × IndexFits (is_vector kind) a.index
+spelled_fits_kind : (bytes : List ℕ) (kind : Kind) (reg : ℕ) (x b : Bool) (a : Address)
+    → SpellsAddress bytes kind reg x b a → BaseFits a.base a.index × IndexFits (is_vector kind) a.index
 spelled_fits_kind bytes kind reg x b a s =
-    let ok : IsSpellableAddress (is_vector kind) s.plain_address = (only_spellable bytes kind reg x b (At s.plain_address) s.spells).1 in
-    subst (λ (a : Address). BaseFits a.base a.index × IndexFits (is_vector kind) a.index) (sym s.banks) (base_given s.plain_address.base s.plain_address.index ok.alone, index_given (is_vector kind) s.plain_address.index ok.index)
+    let ok : IsSpellableAddress (is_vector kind) s.plain_address =
+    (only_spellable bytes kind reg x b (At s.plain_address) s.spells).1 in
+    subst (λ (a : Address). BaseFits a.base a.index × IndexFits (is_vector kind) a.index) (sym s.banks) (
+      base_given s.plain_address.base s.plain_address.index ok.alone,
+      index_given (is_vector kind) s.plain_address.index ok.index,
+    )
 
-pub spelled_fits : (vector : Bool) (bytes : List ℕ) (reg : ℕ) (x b : Bool) (a : Address) → SpellsAddress bytes (memory_kind vector) reg x b a → BaseFits a.base a.index × IndexFits vector a.index
+pub spelled_fits : (vector : Bool) (bytes : List ℕ) (reg : ℕ) (x b : Bool) (a : Address)
+    → SpellsAddress bytes (memory_kind vector) reg x b a → BaseFits a.base a.index × IndexFits vector a.index
 spelled_fits false bytes reg x b a s = spelled_fits_kind bytes InMemory reg x b a s
 spelled_fits true bytes reg x b a s = spelled_fits_kind bytes VectorIndexed reg x b a s
 
 -- no bytes that spell it are fewer than those of its shortest place
-pub spelled_least : (bytes : List ℕ) (kind : Kind) (reg : ℕ) (x b : Bool) (a : Address) → SpellsAddress bytes kind reg x b a → length (place_bytes 0 (shortest (At (plain a)))) ≤ length bytes
+pub spelled_least : (bytes : List ℕ) (kind : Kind) (reg : ℕ) (x b : Bool) (a : Address)
+    → SpellsAddress bytes kind reg x b a → length (place_bytes 0 (shortest (At (plain a)))) ≤ length bytes
 spelled_least bytes kind reg x b a s =
-    subst (λ (p : PlainAddress). length (place_bytes 0 (shortest (At p))) ≤ length bytes) (sym (ap plain s.banks ∙ plain-in_banks Q s.plain_address)) (shortest_is_least bytes kind reg 0 x b (At s.plain_address) s.spells)
+    subst (λ (p : PlainAddress). length (place_bytes 0 (shortest (At p))) ≤ length bytes)
+    (sym (ap plain s.banks ∙ plain-in_banks Q s.plain_address))
+    (shortest_is_least bytes kind reg 0 x b (At s.plain_address) s.spells)
 
 -- the mod of a displacement is not 3
 mod_below : (d : Displacement) → mod_of_displacement d < 3

@@ -1,7 +1,9 @@
 -- Some addresses computed: what their bytes are read as, what that names, and the bytes of the shortest place for it.
-use Rattle.std.proofs.Common.{◌≡◌, ℕ, ◌/◌, ◌%◌, ℤ, pos, negsuc, Bool, true, false, List, [], ◌∷◌, Option, Some, None, Ok, refl}
+use Rattle.std.proofs.Common.{◌≡◌, ℕ, ◌/◌, ◌%◌, ℤ, pos, negsuc, Bool, true, false, List, [], ◌∷◌, Option, Some, None}
+use Rattle.std.proofs.Common.{Ok, refl}
 use Rattle.x86_address.specs.Bytes.{Absent, Short, Long}
-use Rattle.x86_address.specs.Place.{Place, Based, RipBased, Scaled, Baseless, place_bytes, Base, NoBase, Rip, Numbered, At, target}
+use Rattle.x86_address.specs.Place.{Place, Based, RipBased, Scaled, Baseless, place_bytes, Base, NoBase, Rip, Numbered}
+use Rattle.x86_address.specs.Place.{At, target}
 use Rattle.x86_address.specs.Reading.{take_place}
 use Rattle.x86_address.specs.Shortest.{shortest}
 
@@ -34,22 +36,26 @@ unfolding shortest
 rip = (refl, refl, refl)
 
 -- the longest
-scaled : Names false 0x84 (0x88 ∷ 0x78 ∷ 0x56 ∷ 0x34 ∷ 0x12 ∷ []) (Scaled 2 1 0 (Long 305419896)) false false (Numbered 0) (Some (1, 4)) (pos 305419896) (0x84 ∷ 0x88 ∷ 0x78 ∷ 0x56 ∷ 0x34 ∷ 0x12 ∷ [])
+scaled : Names false 0x84 (0x88 ∷ 0x78 ∷ 0x56 ∷ 0x34 ∷ 0x12 ∷ []) (Scaled 2 1 0 (Long 305419896)) false false
+    (Numbered 0) (Some (1, 4)) (pos 305419896) (0x84 ∷ 0x88 ∷ 0x78 ∷ 0x56 ∷ 0x34 ∷ 0x12 ∷ [])
 unfolding shortest
 scaled = (refl, refl, refl)
 
 -- -128 fits one byte, and 128 doesn't
-least_short : Names false 0x80 (0x80 ∷ 0xFF ∷ 0xFF ∷ 0xFF ∷ []) (Based 0 (Long 0xFFFFFF80)) false false (Numbered 0) None (negsuc 127) (0x40 ∷ 0x80 ∷ [])
+least_short : Names false 0x80 (0x80 ∷ 0xFF ∷ 0xFF ∷ 0xFF ∷ []) (Based 0 (Long 0xFFFFFF80)) false false (Numbered 0)
+    None (negsuc 127) (0x40 ∷ 0x80 ∷ [])
 unfolding shortest
 least_short = (refl, refl, refl)
 
 -- a byte has its sign
-short_sign : Names false 0x40 (0x80 ∷ []) (Based 0 (Short 0x80)) false false (Numbered 0) None (negsuc 127) (0x40 ∷ 0x80 ∷ [])
+short_sign : Names false 0x40 (0x80 ∷ []) (Based 0 (Short 0x80)) false false (Numbered 0) None (negsuc 127)
+    (0x40 ∷ 0x80 ∷ [])
 unfolding shortest
 short_sign = (refl, refl, refl)
 
 -- 128 fits no byte
-least_long : Names false 0x80 (0x80 ∷ 0 ∷ 0 ∷ 0 ∷ []) (Based 0 (Long 128)) false false (Numbered 0) None (pos 128) (0x80 ∷ 0x80 ∷ 0 ∷ 0 ∷ 0 ∷ [])
+least_long : Names false 0x80 (0x80 ∷ 0 ∷ 0 ∷ 0 ∷ []) (Based 0 (Long 128)) false false (Numbered 0) None (pos 128)
+    (0x80 ∷ 0x80 ∷ 0 ∷ 0 ∷ 0 ∷ [])
 unfolding shortest
 least_long = (refl, refl, refl)
 
@@ -59,26 +65,31 @@ unfolding shortest
 twelve = (refl, refl, refl)
 
 -- no base needs SIB and four bytes
-no_base : Names false 0x04 (0x25 ∷ 0 ∷ 0x10 ∷ 0 ∷ 0 ∷ []) (Baseless 0 4 4096) false false NoBase None (pos 4096) (0x04 ∷ 0x25 ∷ 0 ∷ 0x10 ∷ 0 ∷ 0 ∷ [])
+no_base : Names false 0x04 (0x25 ∷ 0 ∷ 0x10 ∷ 0 ∷ 0 ∷ []) (Baseless 0 4 4096) false false NoBase None (pos 4096)
+    (0x04 ∷ 0x25 ∷ 0 ∷ 0x10 ∷ 0 ∷ 0 ∷ [])
 unfolding shortest
 no_base = (refl, refl, refl)
 
 -- the index field 4 is an index with X
-index_twelve : Names false 0x04 (0x60 ∷ []) (Scaled 1 4 0 Absent) true false (Numbered 0) (Some (12, 2)) (pos 0) (0x04 ∷ 0x60 ∷ [])
+index_twelve : Names false 0x04 (0x60 ∷ []) (Scaled 1 4 0 Absent) true false (Numbered 0) (Some (12, 2)) (pos 0)
+    (0x04 ∷ 0x60 ∷ [])
 unfolding shortest
 index_twelve = (refl, refl, refl)
 
 -- the index 4 of a vector register
-vector_four : Names true 0x04 (0x60 ∷ []) (Scaled 1 4 0 Absent) false false (Numbered 0) (Some (4, 2)) (pos 0) (0x04 ∷ 0x60 ∷ [])
+vector_four : Names true 0x04 (0x60 ∷ []) (Scaled 1 4 0 Absent) false false (Numbered 0) (Some (4, 2)) (pos 0)
+    (0x04 ∷ 0x60 ∷ [])
 unfolding shortest
 vector_four = (refl, refl, refl)
 
 -- beside base 13, which has no form without a displacement
-vector_thirteen : Names true 0x44 (0x65 ∷ 0 ∷ []) (Scaled 1 4 5 (Short 0)) true true (Numbered 13) (Some (12, 2)) (pos 0) (0x44 ∷ 0x65 ∷ 0 ∷ [])
+vector_thirteen : Names true 0x44 (0x65 ∷ 0 ∷ []) (Scaled 1 4 5 (Short 0)) true true (Numbered 13) (Some (12, 2))
+    (pos 0) (0x44 ∷ 0x65 ∷ 0 ∷ [])
 unfolding shortest
 vector_thirteen = (refl, refl, refl)
 
 -- and beside no base
-vector_no_base : Names true 0x04 (0xA5 ∷ 0x10 ∷ 0 ∷ 0 ∷ 0 ∷ []) (Baseless 2 4 16) false true NoBase (Some (4, 4)) (pos 16) (0x04 ∷ 0xA5 ∷ 0x10 ∷ 0 ∷ 0 ∷ 0 ∷ [])
+vector_no_base : Names true 0x04 (0xA5 ∷ 0x10 ∷ 0 ∷ 0 ∷ 0 ∷ []) (Baseless 2 4 16) false true NoBase (Some (4, 4))
+    (pos 16) (0x04 ∷ 0xA5 ∷ 0x10 ∷ 0 ∷ 0 ∷ 0 ∷ [])
 unfolding shortest
 vector_no_base = (refl, refl, refl)

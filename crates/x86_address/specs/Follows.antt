@@ -15,10 +15,13 @@ Same value answer = answer ≡ value
 abbrev pub Any : {A B : Type 0} → A → B → Type 0
 Any value answer = Unit {0}
 
--- the call answered what the step answers at these bytes, whatever follows them; where they were exhausted, nothing does
+-- the call answered what the step answers at these bytes, whatever follows them; where they were exhausted, nothing
+-- does
 abbrev pub Answers : {A B : Type 0} → (List ℕ → Reading A) → (A → B → Type 0) → List ℕ → Result B DecodeError → Type 0
-Answers {A} step IsSo bytes (Ok answer) = (value : A) × IsSo value answer × ((rest : List ℕ) → step (bytes ++ rest) ≡ Ok (value, rest))
-Answers {A} step IsSo bytes (Err error) = (rest : List ℕ) → (error ≡ ExhaustedInput → rest ≡ []) → step (bytes ++ rest) ≡ Err (error, rest)
+Answers {A} step IsSo bytes (Ok answer) =
+    (value : A) × IsSo value answer × ((rest : List ℕ) → step (bytes ++ rest) ≡ Ok (value, rest))
+Answers {A} step IsSo bytes (Err error) =
+    (rest : List ℕ) → (error ≡ ExhaustedInput → rest ≡ []) → step (bytes ++ rest) ≡ Err (error, rest)
 
 -- a refusal was counted exactly where the bytes were exhausted
 pub record Refused (old new : ReaderState) (error : DecodeError) : Type 0 where
@@ -32,14 +35,16 @@ Counts old new (Err error) = Refused old new error
 
 -- the reader gave some bytes and no others, and the call answered what the step answers at them: a value to which the
 -- answer is so, or its error
-pub record Follows {A B : Type 0} (step : List ℕ → Reading A) (IsSo : A → B → Type 0) (old new : ReaderState) (result : Result B DecodeError) : Type 0 where
+pub record Follows {A B : Type 0} (step : List ℕ → Reading A) (IsSo : A → B → Type 0) (old new : ReaderState)
+    (result : Result B DecodeError) : Type 0 where
   pub bytes : List ℕ
   pub passes : Passes old new bytes
   pub counts : Counts old new result
   pub answers : Answers step IsSo bytes result
 
 -- a call that reads nothing answers what the step answers, and no refusal
-pub record Decides {A B : Type 0} (step : List ℕ → Reading A) (IsSo : A → B → Type 0) (result : Result B DecodeError) : Type 0 where
+pub record Decides {A B : Type 0} (step : List ℕ → Reading A) (IsSo : A → B → Type 0) (result : Result B DecodeError) :
+    Type 0 where
   pub answers : Answers step IsSo [] result
   pub other : result ≢ Err ExhaustedInput
 
@@ -49,21 +54,29 @@ Rises most old new = (n : ℕ) × (n ≤ most) × (new.total ≡ old.total + n) 
 
 -- over bytes that the reader tells, the call answers what the step does and leaves what it leaves, other than that the
 -- bytes are exhausted
-abbrev pub AnswersTold : {A B : Type 0} → (List ℕ → Reading A) → (A → B → Type 0) → ReaderState → List ℕ → Result B DecodeError → Type 0
-AnswersTold {A} step IsSo new left (Ok answer) = (value : A) × (rest : List ℕ) × IsSo value answer × (step left ≡ Ok (value, rest)) × (new.left ≡ Some rest)
-AnswersTold {A} step IsSo new left (Err error) = error ≢ ExhaustedInput → (rest : List ℕ) × (step left ≡ Err (error, rest)) × (new.left ≡ Some rest)
+abbrev pub AnswersTold : {A B : Type 0} → (List ℕ → Reading A) → (A → B → Type 0) → ReaderState → List ℕ
+    → Result B DecodeError → Type 0
+AnswersTold {A} step IsSo new left (Ok answer) =
+    (value : A) × (rest : List ℕ) × IsSo value answer × (step left ≡ Ok (value, rest)) × (new.left ≡ Some rest)
+AnswersTold {A} step IsSo new left (Err error) =
+    error ≢ ExhaustedInput → (rest : List ℕ) × (step left ≡ Err (error, rest)) × (new.left ≡ Some rest)
 
-abbrev pub OverTold : {A B : Type 0} → (List ℕ → Reading A) → (A → B → Type 0) → ReaderState → ReaderState → Result B DecodeError → Type 0
+abbrev pub OverTold : {A B : Type 0} → (List ℕ → Reading A) → (A → B → Type 0) → ReaderState → ReaderState
+    → Result B DecodeError → Type 0
 OverTold step IsSo old new result = (left : List ℕ) → old.left ≡ Some left → AnswersTold step IsSo new left result
 
 -- over a `U8Reader` the call answers what the step does over the bytes left, and leaves what it leaves
-abbrev pub AnswersSlice : {A B : Type 0} → (List ℕ → Reading A) → (A → B → Type 0) → SliceReader → SliceReader → Result B DecodeError → Type 0
-AnswersSlice {A} step IsSo before after (Ok answer) = (value : A) × IsSo value answer × (step before.left ≡ Ok (value, after.left))
+abbrev pub AnswersSlice : {A B : Type 0} → (List ℕ → Reading A) → (A → B → Type 0) → SliceReader → SliceReader
+    → Result B DecodeError → Type 0
+AnswersSlice {A} step IsSo before after (Ok answer) =
+    (value : A) × IsSo value answer × (step before.left ≡ Ok (value, after.left))
 AnswersSlice {A} step IsSo before after (Err error) = step before.left ≡ Err (error, after.left)
 
-abbrev pub OverSlice : {A B : Type 0} → (List ℕ → Reading A) → (A → B → Type 0) → ReaderState → ReaderState → Result B DecodeError → Type 0
+abbrev pub OverSlice : {A B : Type 0} → (List ℕ → Reading A) → (A → B → Type 0) → ReaderState → ReaderState
+    → Result B DecodeError → Type 0
 OverSlice step IsSo old new result =
-    (before after : SliceReader) → old ≡ slice_state before → new ≡ slice_state after → AnswersSlice step IsSo before after result
+    (before after : SliceReader) → old ≡ slice_state before → new ≡ slice_state after
+    → AnswersSlice step IsSo before after result
 
 -- where the step succeeds over the bytes that the reader tells, and no refusal was counted, the call succeeds
 abbrev pub Completes : {A B : Type 0} → (List ℕ → Reading A) → ReaderState → ReaderState → Result B DecodeError → Type 0

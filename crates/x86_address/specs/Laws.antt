@@ -1,5 +1,6 @@
 -- Laws of addresses: each is the contract of a function in the module `laws`.
-use Rattle.std.specs.Prelude.{◌≡◌, ◌≢◌, ◌⊎◌, ◌↔◌, ◌/◌, ◌%◌, ◌∷◌, Ok, Err, true, ℕ, ◌<◌, ◌≤◌, Bool, List, [], ◌++◌, length}
+use Rattle.std.specs.Prelude.{◌≡◌, ◌≢◌, ◌⊎◌, ◌↔◌, ◌/◌, ◌%◌, ◌∷◌, Ok, Err, true, ℕ, ◌<◌, ◌≤◌, Bool, List, [], ◌++◌}
+use Rattle.std.specs.Prelude.{length}
 use Rattle.x86_operand.specs.declared.error.DecodeError.{DecodeError}
 use Rattle.x86_operand.specs.declared.error.DecodeError.TheVariants.{ExhaustedInput}
 use Rattle.x86_operand.specs.Kind.{Kind, WithoutModRM, is_vector, plain_kind}
@@ -54,7 +55,8 @@ OnePlace =
 -- the bytes of an address begin those of no other, and name one target of a kind, with one reg field
 abbrev pub OneReading : Type 0
 OneReading =
-    (bytes more : List ℕ) (kind other_kind : Kind) (reg other_reg : ℕ) (x b : Bool) (e other : Target) → kind ≢ WithoutModRM
+    (bytes more : List ℕ) (kind other_kind : Kind) (reg other_reg : ℕ) (x b : Bool) (e other : Target)
+    → kind ≢ WithoutModRM
     → SpellsTarget bytes kind reg x b e → SpellsTarget (bytes ++ more) other_kind other_reg x b other
     → (more ≡ []) × (reg ≡ other_reg) × (plain_kind kind ≡ plain_kind other_kind) × (kind ≡ other_kind → e ≡ other)
 

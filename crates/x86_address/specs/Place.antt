@@ -1,8 +1,10 @@
 pub mod Laws
-use Rattle.std.specs.Prelude.{◌≡◌, ◌≢◌, ℕ, ◌+◌, ◌*◌, ◌^◌, ◌<◌, ℤ, Bool, true, false, not, ◌&&◌, List, [], ◌∷◌, Option, Some, None, ◌==◌, if◌then◌else◌}
+use Rattle.std.specs.Prelude.{◌≡◌, ◌≢◌, ℕ, ◌+◌, ◌*◌, ◌^◌, ◌<◌, ℤ, Bool, true, false, not, ◌&&◌, List, [], ◌∷◌, Option}
+use Rattle.std.specs.Prelude.{Some, None, ◌==◌, if◌then◌else◌}
 use Rattle.std.specs.Int.{cast_signed, w32}
 use Rattle.x86_operand.specs.Kind.{Kind, WithoutModRM, InRegister, InMemory, is_vector, plain_kind}
-use Rattle.x86_address.specs.Bytes.{bit, doubleword_bytes, Displacement, Absent, Short, Long, IsDisplacement, displacement_bytes, displacement_value}
+use Rattle.x86_address.specs.Bytes.{bit, doubleword_bytes, Displacement, Absent, Short, Long, IsDisplacement}
+use Rattle.x86_address.specs.Bytes.{displacement_bytes, displacement_value}
 
 -- how the bytes from ModRM on name the operand E, by its fields: rm of ModRM, or the scale's exponent k, the index
 -- field i and the base field j of SIB, and the displacement (Intel SDM volume 2, tables 2-2 and 2-3)
@@ -115,7 +117,8 @@ kind_of_target NoTarget = WithoutModRM
 kind_of_target (Number n) = InRegister
 kind_of_target (At a) = InMemory
 
--- the index of exponent, index field and X: the number 4 means no index, and the scale then plays no part, but where the
+-- the index of exponent, index field and X: the number 4 means no index, and the scale then plays no part, but where
+-- the
 -- index is a vector register (Intel SDM volume 2, sections 2.1.5 and 2.3.12)
 abbrev pub index_of : Bool → ℕ → ℕ → Bool → Option (ℕ × ℕ)
 index_of vector k i x = if not vector && i + 8 * bit x == 4 then None else Some (i + 8 * bit x, 2 ^ k)
@@ -125,10 +128,13 @@ index_of vector k i x = if not vector && i + 8 * bit x == 4 then None else Some 
 abbrev pub target : Bool → Place → Bool → Bool → Target
 target vector NoPlace x b = NoTarget
 target vector (Direct rm) x b = Number (rm + 8 * bit b)
-target vector (Based rm d) x b = At (record { base = Numbered (rm + 8 * bit b); index = None; disp = displacement_value d })
+target vector (Based rm d) x b = At (record
+    { base = Numbered (rm + 8 * bit b); index = None; disp = displacement_value d })
 target vector (RipBased n) x b = At (record { base = Rip; index = None; disp = cast_signed w32 n })
-target vector (Scaled k i j d) x b = At (record { base = Numbered (j + 8 * bit b); index = index_of vector k i x; disp = displacement_value d })
-target vector (Baseless k i n) x b = At (record { base = NoBase; index = index_of vector k i x; disp = cast_signed w32 n })
+target vector (Scaled k i j d) x b = At (record
+    { base = Numbered (j + 8 * bit b); index = index_of vector k i x; disp = displacement_value d })
+target vector (Baseless k i n) x b = At (record
+    { base = NoBase; index = index_of vector k i x; disp = cast_signed w32 n })
 
 -- the bytes spell what is named, of this kind, with this reg field and these bits X and B
 pub record SpellsTarget (bytes : List ℕ) (kind : Kind) (reg : ℕ) (x b : Bool) (named : Target) : Type 0 where

@@ -44,7 +44,8 @@ take_long bytes = do
 
 -- a displacement as long as the field mod says
 abbrev pub take_displacement : ℕ → List ℕ → Reading Displacement
-take_displacement mode bytes = if mode == 0 then Ok (Absent, bytes) else if mode == 1 then take_short bytes else take_long bytes
+take_displacement mode bytes = if mode == 0 then Ok (Absent, bytes) else if mode == 1 then take_short bytes else
+    take_long bytes
 
 -- what follows SIB where it names no base: a displacement of four bytes
 abbrev pub take_baseless : ℕ → List ℕ → Reading Place

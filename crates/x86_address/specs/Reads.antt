@@ -21,7 +21,8 @@ pub record SpelledBy (kind : Kind) (modrm : ℕ) (x b : Bool) (address : Address
   pub most : length bytes ≤ 5
   pub spells : SpellsAddress (modrm ∷ bytes) kind ((modrm / 8) % 8) x b address
 
--- the reader gave at most four of the bytes that follow ModRM in some spelling of an address of that kind with these bits
+-- the reader gave at most four of the bytes that follow ModRM in some spelling of an address of that kind with these
+-- bits
 -- X and B, and fewer than follow it in whatever bytes begin so and spell anything
 pub record CutShort (kind : Kind) (modrm : ℕ) (x b : Bool) (old new : ReaderState) : Type 0 where
   pub bytes : List ℕ
@@ -30,4 +31,5 @@ pub record CutShort (kind : Kind) (modrm : ℕ) (x b : Bool) (old new : ReaderSt
   pub missing : List ℕ
   pub address : Address
   pub spells : SpellsAddress (modrm ∷ (bytes ++ missing)) kind ((modrm / 8) % 8) x b address
-  pub fewer : (rest : List ℕ) (other : Kind) (reg : ℕ) (other_x other_b : Bool) (e : Target) → SpellsTarget (modrm ∷ (bytes ++ rest)) other reg other_x other_b e → rest ≢ []
+  pub fewer : (rest : List ℕ) (other : Kind) (reg : ℕ) (other_x other_b : Bool) (e : Target)
+      → SpellsTarget (modrm ∷ (bytes ++ rest)) other reg other_x other_b e → rest ≢ []

@@ -9,7 +9,8 @@ use Rattle.x86_operand.specs.Kind.{Kind}
 use Rattle.x86_address.specs.Place.{Place, place_bytes, PlainAddress, At, SpellsTarget}
 use Rattle.x86_address.specs.Shortest.{in_banks, MayBeIndex}
 
--- the bytes spell this address of a kind in memory, with this reg field and these bits X and B: its base is in bank Q or
+-- the bytes spell this address of a kind in memory, with this reg field and these bits X and B: its base is in bank Q
+-- or
 -- RIP, and its index in bank Q
 pub record SpellsAddress (bytes : List ℕ) (kind : Kind) (reg : ℕ) (x b : Bool) (address : Address) : Type 0 where
   pub plain_address : PlainAddress
@@ -38,7 +39,8 @@ IsScale scale = (scale ≡ 1) ⊎ ((scale ≡ 2) ⊎ ((scale ≡ 4) ⊎ (scale �
 abbrev pub IsPower : ℕ → Type 0
 IsPower n = (exponent : ℕ) × (exponent < 4) × (n ≡ 2 ^ exponent)
 
--- there is no index, but where a vector register has to be; or there is one of bank Q with a number and a scale that SIB
+-- there is no index, but where a vector register has to be; or there is one of bank Q with a number and a scale that
+-- SIB
 -- can say
 abbrev pub IndexFits : Bool → Option Index → Type 0
 IndexFits vector None = vector ≡ false

@@ -64,12 +64,12 @@ pub fn read_address<R: Reader>(
     read_by_fields(words, modrm / 64, modrm % 8, x, b)
 }
 
-/// Reads SIB and displacement after a ModRM byte below C0 hex whose field rm is 4, and answers the address with a vector
-/// register as its index, with the bits X and B of the prefix. Its base is of bank `Q`, and so is its index, which a
-/// caller puts into the bank of the vector.
+/// Reads SIB and displacement after a ModRM byte below C0 hex whose field rm is 4, and answers the address with a
+/// vector register as its index, with the bits X and B of the prefix. Its base is of bank `Q`, and so is its index,
+/// which a caller puts into the bank of the vector.
 ///
-/// There always is an index: the number 4 is one like any other. All else is as `read_address` has it. (Intel SDM volume
-/// 2, sections 2.1.5, 2.3.8 and 2.3.12.)
+/// There always is an index: the number 4 is one like any other. All else is as `read_address` has it. (Intel SDM
+/// volume 2, sections 2.1.5, 2.3.8 and 2.3.12.)
 ///
 /// Both numbers of the reader rise by the number of bytes taken, at most 5. `ExhaustedInput` comes only where the
 /// reader's count of refusals rose in this call or stands at its last value; over a `U8Reader`, exactly where a byte

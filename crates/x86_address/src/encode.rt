@@ -1,10 +1,13 @@
 //! The shortest bytes of an address.
 
-ghost use Rattle.std.specs.Prelude.{◌≡◌, ◌↔◌, ◌≤◌, ◌+◌, ◌*◌, ◌%◌, ◌<◌, ◌==◌, true, false, IsTrue, IsSome, IsNone, IfSome, ℕ, Bool, List, length, pos};
+ghost use Rattle.std.specs.Prelude.{◌≡◌, ◌↔◌, ◌≤◌, ◌+◌, ◌*◌, ◌%◌, ◌<◌, ◌==◌, true, false, IsTrue, IsSome, IsNone};
+ghost use Rattle.std.specs.Prelude.{IfSome, ℕ, Bool, List, length, pos};
 ghost use Rattle.arrayvec.specs.ArrayVec.{array_vec_len};
 ghost use Rattle.x86_operand.specs.Kind.{InMemory, VectorIndexed, memory_kind};
 ghost use Rattle.x86_address.specs.Place.{place_bytes, NoBase, Rip, Numbered, At};
-ghost use Rattle.x86_address.specs.Shortest.{plain, plain_base, base_register, plain_index, exponent_of, exponent_field, index_field, place_of_base, shortest, is_upper, x_of_index, b_of_base, x_of, b_of, IsBase, MayBeIndex, IsIndex};
+ghost use Rattle.x86_address.specs.Shortest.{plain, plain_base, base_register, plain_index, exponent_of};
+ghost use Rattle.x86_address.specs.Shortest.{exponent_field, index_field, place_of_base, shortest, is_upper};
+ghost use Rattle.x86_address.specs.Shortest.{x_of_index, b_of_base, x_of, b_of, IsBase, MayBeIndex, IsIndex};
 ghost use Rattle.x86_address.specs.Spells.{SpellsAddress, BaseFits, IsScale, IsPower, IndexFits, HasModRM};
 
 use crate::displacement::{Written, append_doubleword};
@@ -187,7 +190,8 @@ fn shortest_of_kind(vector: bool, address: &Address) -> Option<AddressBytes>
         found.bytes.items ≡ place_bytes 0 (shortest (At (plain address.now)))) }
     ensures x { IfSome result (λ found. found.x ≡ x_of (At (plain address.now))) }
     ensures b { IfSome result (λ found. found.b ≡ b_of (At (plain address.now))) }
-    ensures spells { IfSome result (λ found. SpellsAddress found.bytes.items (memory_kind vector) 0 found.x found.b address.now) }
+    ensures spells { IfSome result (λ found. SpellsAddress found.bytes.items (memory_kind vector) 0 found.x found.b
+        address.now) }
     ensures least { IfSome result (λ found. (bytes : List ℕ) (reg : ℕ) (x b : Bool)
         → SpellsAddress bytes (memory_kind vector) reg x b address.now → length found.bytes.items ≤ length bytes) }
     ensures none { IsNone result ↔ ((bytes : List ℕ) (reg : ℕ) (x b : Bool)
@@ -242,8 +246,8 @@ pub fn shortest_address(address: &Address) -> Option<AddressBytes>
     shortest_of_kind(false, address)
 }
 
-/// The shortest bytes that spell an address with a vector register as its index, with the bits X and B that go with them.
-/// A caller hands in the register's number in bank `Q`.
+/// The shortest bytes that spell an address with a vector register as its index, with the bits X and B that go with
+/// them. A caller hands in the register's number in bank `Q`.
 ///
 /// There always is SIB, and the number 4 is an index like any other; all else is as `shortest_address` has it. (Intel
 /// SDM volume 2, sections 2.1.5, 2.3.8 and 2.3.12.)
@@ -260,7 +264,8 @@ pub fn shortest_vector_address(address: &Address) -> Option<AddressBytes>
     ensures b { IfSome result (λ found. found.b ≡ b_of (At (plain address.now))) }
 
     // The bytes spell the address, and no bytes that spell it are fewer.
-    ensures spells { IfSome result (λ found. SpellsAddress found.bytes.items VectorIndexed 0 found.x found.b address.now) }
+    ensures spells { IfSome result (λ found. SpellsAddress found.bytes.items VectorIndexed 0 found.x found.b
+        address.now) }
     ensures least { IfSome result (λ found. (bytes : List ℕ) (reg : ℕ) (x b : Bool)
         → SpellsAddress bytes VectorIndexed reg x b address.now → length found.bytes.items ≤ length bytes) }
 

@@ -1,6 +1,7 @@
 //! Laws of addresses, over the definitions alone: each function's contract is a law, and its body is empty.
 
-ghost use Rattle.x86_address.specs.Laws.{OnlySpellable, ShortestSpells, ShortestIsLeast, XIsFixed, BIsFixed, DemandedIsSet, OnePlace, OneReading, ReadingIsSpelling, ReadingFails};
+ghost use Rattle.x86_address.specs.Laws.{OnlySpellable, ShortestSpells, ShortestIsLeast, XIsFixed, BIsFixed};
+ghost use Rattle.x86_address.specs.Laws.{DemandedIsSet, OnePlace, OneReading, ReadingIsSpelling, ReadingFails};
 
 /// What bytes can name, the bytes of its shortest place name, and no bytes name anything else.
 pub fn shortest_spells()

@@ -1,6 +1,7 @@
 use Rattle.std.specs.Prelude.{ℕ, List, codes}
 use Rattle.x86_operand.specs.declared.error.DecodeError.{DecodeError}
-use Rattle.x86_operand.specs.declared.error.DecodeError.TheVariants.{ExhaustedInput, InvalidOpcode, InvalidOperand, Outside}
+use Rattle.x86_operand.specs.declared.error.DecodeError.TheVariants.{ExhaustedInput, InvalidOpcode, InvalidOperand}
+use Rattle.x86_operand.specs.declared.error.DecodeError.TheVariants.{Outside}
 use Rattle.x86_operand.specs.declared.error.EncodeError.{EncodeError}
 use Rattle.x86_operand.specs.declared.error.EncodeError.TheVariants.{NoSpelling}
 

@@ -52,7 +52,8 @@ same_operands xs ys = pointwise same_operand xs ys
 -- whether two meanings are one: the same mark, opcode, operands and size
 unfoldable pub same_meaning : Meaning → Meaning → Bool
 same_meaning a b =
-    beq a.evex b.evex && same_opcode a.opcode b.opcode && same_operands a.operands b.operands && option_eq nat_eq a.size b.size
+    beq a.evex b.evex && same_opcode a.opcode b.opcode && same_operands a.operands b.operands && option_eq nat_eq
+    a.size b.size
 
 -- whether two instructions are one: the same meaning and the same length
 unfoldable pub same_decoded : Decoded → Decoded → Bool

@@ -1,5 +1,5 @@
-//! What x86 instructions are made of: registers, addresses, operands and sizes, the instruction itself, and the errors of
-//! decoding and encoding one.
+//! What x86 instructions are made of: registers, addresses, operands and sizes, the instruction itself, and the errors
+//! of decoding and encoding one.
 //!
 //! ```
 //! use x86_operand::{Instruction, MemoryAccessSize, Opcode, Operand, RegSpec, RegisterBank};

@@ -13,7 +13,8 @@ is_set-set (b ∷ bs) (suc i) zero h = h
 is_set-set (b ∷ bs) (suc i) (suc j) h = is_set-set bs i j h
 
 -- bits that are all set stay so
-pub all_set-set : (s : List Bool) (i : ℕ) (places : List ℕ) → all_set s places ≡ true → all_set (with_set s i) places ≡ true
+pub all_set-set : (s : List Bool) (i : ℕ) (places : List ℕ) → all_set s places ≡ true
+    → all_set (with_set s i) places ≡ true
 all_set-set s i [] h = refl
 all_set-set s i (j ∷ places) h =
     and_from _ _ (is_set-set s i j (and_parts _ _ h).0) (all_set-set s i places (and_parts _ _ h).1)

@@ -22,7 +22,8 @@ either : {a b c d : Bool} → a ≡ b → c ≡ d → (a || c) ≡ (b || d)
 either p q = cc
 
 -- a condition reads these bits alone
-condition_holds-same : (s t : List Bool) → AgreeOnReadBits s t → (c : Condition) → condition_holds s c ≡ condition_holds t c
+condition_holds-same : (s t : List Bool) → AgreeOnReadBits s t → (c : Condition)
+    → condition_holds s c ≡ condition_holds t c
 condition_holds-same s t same on.ThreeDNow = same 1 refl
 condition_holds-same s t same on.Tzcnt = refl
 condition_holds-same s t same on.Sse3 = same 54 refl
@@ -59,12 +60,14 @@ condition_holds-same s t same on.Always = refl
 abbrev all_read : List ℕ → Bool
 all_read places = list_all (is_among read_bits) places
 
-all_set-same : (s t : List Bool) → AgreeOnReadBits s t → (places : List ℕ) → all_read places ≡ true → all_set s places ≡ all_set t places
+all_set-same : (s t : List Bool) → AgreeOnReadBits s t → (places : List ℕ) → all_read places ≡ true
+    → all_set s places ≡ all_set t places
 all_set-same s t same [] h = refl
 all_set-same s t same (i ∷ places) h =
     both (same i (and_parts _ _ h).0) (all_set-same s t same places (and_parts _ _ h).1)
 
-marked_bit-same : (s t : List Bool) → AgreeOnReadBits s t → (o : Opcode) → own_bit_set s (marked_bit o) ≡ own_bit_set t (marked_bit o)
+marked_bit-same : (s t : List Bool) → AgreeOnReadBits s t → (o : Opcode)
+    → own_bit_set s (marked_bit o) ≡ own_bit_set t (marked_bit o)
 unfolding marked_bit
 marked_bit-same s t same (Marked marked.V4FMADDPS) = same 10 refl
 marked_bit-same s t same (Marked marked.V4FNMADDPS) = same 10 refl
@@ -76,13 +79,16 @@ marked_bit-same s t same (Marked marked.VPMULLQ) = refl
 marked_bit-same s t same (Marked _) = same 16 refl
 marked_bit-same s t same _ = refl
 
-permits-same : (s t : List Bool) → AgreeOnReadBits s t → (mark : Bool) (o : Opcode) → permits s mark o ≡ permits t mark o
+permits-same : (s t : List Bool) → AgreeOnReadBits s t → (mark : Bool) (o : Opcode)
+    → permits s mark o ≡ permits t mark o
 unfolding permits
 permits-same s t same false o = condition_holds-same s t same (opcode_condition o)
 permits-same s t same true o =
-    either (all_set-same s t same avx512 refl) (both (all_set-same s t same marked_baseline refl) (marked_bit-same s t same o))
+    either (all_set-same s t same avx512 refl)
+    (both (all_set-same s t same marked_baseline refl) (marked_bit-same s t same o))
 
-revised-same : (s t : List Bool) → AgreeOnReadBits s t → (mark : Bool) (o : Opcode) → revised s mark o ≡ revised t mark o
+revised-same : (s t : List Bool) → AgreeOnReadBits s t → (mark : Bool) (o : Opcode)
+    → revised s mark o ≡ revised t mark o
 unfolding revised
 revised-same s t same mark (Legacy TZCNT) = rw (same 25 refl)
 revised-same s t same mark _ = refl

@@ -10,7 +10,11 @@ use Rattle.x86_opcode.specs.Condition.{opcode_condition}
 use Rattle.x86_opcode.specs.Mark.{marked_bit}
 use Rattle.x86_settings.specs.Bits.{is_set}
 use Rattle.x86_settings.specs.Sets.{all_set}
-use Rattle.x86_settings.specs.Settings.{_3dnow, abm, adx, aesni, amd_quirks, avx, bmi1, bmi2, f16c, hreset, intel_quirks, keylocker, lahfsahf, lzcnt, movbe, pclmulqdq, popcnt, rdrand, rdseed, sgx, sha, skinit, sse3, sse4_1, sse4_2, sse4a, ssse3, svm, tsx, vmx, avx512_bitalg, avx512_bw, avx512_cd, avx512_dq, avx512_f, avx512_fma, avx512_vbmi, avx512_vbmi2, avx512_vl, avx512_vpopcntdq, avx512_vnni}
+use Rattle.x86_settings.specs.Settings.{_3dnow, abm, adx, aesni, amd_quirks, avx, bmi1, bmi2, f16c, hreset}
+use Rattle.x86_settings.specs.Settings.{intel_quirks, keylocker, lahfsahf, lzcnt, movbe, pclmulqdq, popcnt, rdrand}
+use Rattle.x86_settings.specs.Settings.{rdseed, sgx, sha, skinit, sse3, sse4_1, sse4_2, sse4a, ssse3, svm, tsx, vmx}
+use Rattle.x86_settings.specs.Settings.{avx512_bitalg, avx512_bw, avx512_cd, avx512_dq, avx512_f, avx512_fma}
+use Rattle.x86_settings.specs.Settings.{avx512_vbmi, avx512_vbmi2, avx512_vl, avx512_vpopcntdq, avx512_vnni}
 use Rattle.x86_settings.specs.Composites.{avx512}
 
 -- whether the settings meet the condition of an opcode without the EVEX mark
@@ -50,7 +54,8 @@ condition_holds s on.Always = true
 -- the bits that every opcode with the EVEX mark needs where `avx512` isn't whole
 abbrev pub marked_baseline : List ℕ
 marked_baseline =
-    avx512_bitalg ∷ avx512_bw ∷ avx512_cd ∷ avx512_dq ∷ avx512_f ∷ avx512_fma ∷ avx512_vbmi ∷ avx512_vbmi2 ∷ avx512_vl ∷ avx512_vpopcntdq ∷ avx512_vnni ∷ []
+    avx512_bitalg ∷ avx512_bw ∷ avx512_cd ∷ avx512_dq ∷ avx512_f ∷ avx512_fma ∷ avx512_vbmi ∷ avx512_vbmi2 ∷ avx512_vl
+    ∷ avx512_vpopcntdq ∷ avx512_vnni ∷ []
 
 -- whether the bit of its own is set, for an opcode that has one
 abbrev pub own_bit_set : List Bool → Option ℕ → Bool

@@ -1,6 +1,7 @@
 //! What holds of permission and of least settings, whatever the settings.
 
-ghost use Rattle.x86_permit.specs.Laws.{AllSettingsPermitAll, LeastSettingsPermit, MoreSettingsPermitMore, OtherBitsChangeNothing, VexOpcodesStay};
+ghost use Rattle.x86_permit.specs.Laws.{AllSettingsPermitAll, LeastSettingsPermit, MoreSettingsPermitMore};
+ghost use Rattle.x86_permit.specs.Laws.{OtherBitsChangeNothing, VexOpcodesStay};
 
 /// The law on least settings: an instruction with a VEX opcode is permitted exactly where all bits of
 /// its least settings are set.

@@ -1,6 +1,7 @@
 -- What a sink shows of itself, and what it is to record triples in it.
 pub mod Laws
-use Rattle.std.specs.Prelude.{◌≡◌, ℕ, ◌+◌, ◌-◌, ◌≤◌, ◌↔◌, Bool, IsTrue, if◌then◌else◌, List, ◌++◌, length, take, Option, Some, None, IsSome}
+use Rattle.std.specs.Prelude.{◌≡◌, ℕ, ◌+◌, ◌-◌, ◌≤◌, ◌↔◌, Bool, IsTrue, if◌then◌else◌, List, ◌++◌, length, take, Option}
+use Rattle.std.specs.Prelude.{Some, None, IsSome}
 use Rattle.std.specs.Option.{option_map}
 
 -- the first bit and the last bit, and what stands there

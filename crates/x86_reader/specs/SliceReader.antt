@@ -30,7 +30,8 @@ RefusesAtEnd = (r : SliceReader) → (slice_state r).refusals ≢ 0 → r.left �
 
 -- where a `U8Reader` gave bytes and then refused one, they were all that were left
 abbrev pub StopsAtEnd : Type 0
-StopsAtEnd = (old new : SliceReader) (bytes : List ℕ) → Stops (slice_state old) (slice_state new) bytes → (old.left ≡ bytes) × (new.left ≡ [])
+StopsAtEnd = (old new : SliceReader) (bytes : List ℕ) → Stops (slice_state old) (slice_state new) bytes
+    → (old.left ≡ bytes) × (new.left ≡ [])
 
 -- a `FailReader`: what a `U8Reader` is, how many calls of `next` there were, and which of them are to fail
 pub record FailingReader : Type 0 where

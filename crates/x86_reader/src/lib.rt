@@ -1,7 +1,7 @@
 //! Where the bytes of an instruction come from, and where the notes on them go.
 //!
-//! A reader gives one byte after another, and counts them since its mark and since it was made: a slice of bytes, or one
-//! that fails where a test wants it. A sink takes notes on runs of bits.
+//! A reader gives one byte after another, and counts them since its mark and since it was made: a slice of bytes, or
+//! one that fails where a test wants it. A sink takes notes on runs of bits.
 //!
 //! ```
 //! use x86_reader::{ReadError, Reader, U8Reader};

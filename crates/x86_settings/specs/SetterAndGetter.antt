@@ -14,7 +14,8 @@ SetterChangesItsBit = (s : List Bool) (i j : ℕ) → is_set (with_set s i) j �
 -- it changes what a composite answers only where the bit is one of the composite's members
 abbrev pub SetterChangesCompositesOverIt : Type 0
 SetterChangesCompositesOverIt =
-    (s : List Bool) (i : ℕ) (members : List ℕ) → all_set (with_set s i) members ≢ all_set s members → IsTrue (is_among members i)
+    (s : List Bool) (i : ℕ) (members : List ℕ) → all_set (with_set s i) members ≢ all_set s members
+    → IsTrue (is_among members i)
 
 -- after the setter of a composite that composite is true
 abbrev pub CompositeSetterMakesGetterTrue : Type 0
@@ -25,7 +26,8 @@ CompositeSetterMakesGetterTrue =
 -- the setter of a composite changes what a getter answers only where the getter reads one of its members
 abbrev pub CompositeSetterChangesItsMembers : Type 0
 CompositeSetterChangesItsMembers =
-    (s : List Bool) (members : List ℕ) (j : ℕ) → is_set (with_all_set s members) j ≢ is_set s j → IsTrue (is_among members j)
+    (s : List Bool) (members : List ℕ) (j : ℕ) → is_set (with_all_set s members) j ≢ is_set s j
+    → IsTrue (is_among members j)
 
 -- it changes what another composite answers only where the two have a member in common
 abbrev pub CompositeSetterChangesCompositesOverIt : Type 0

@@ -2,7 +2,8 @@
 
 ghost use Rattle.std.specs.Prelude.{◌≡◌, length};
 ghost use Rattle.x86_settings.specs.Bits.{is_set, with_set};
-ghost use Rattle.x86_settings.specs.Settings.{_3dnow, _3dnowprefetch, abm, fma4, skinit, sse4a, svm, tbm, xop, monitorx, clzero};
+ghost use Rattle.x86_settings.specs.Settings.{_3dnow, _3dnowprefetch, abm, fma4, skinit, sse4a, svm, tbm, xop};
+ghost use Rattle.x86_settings.specs.Settings.{monitorx, clzero};
 
 use crate::decoder::InstDecoder;
 

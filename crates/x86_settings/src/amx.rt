@@ -2,7 +2,8 @@
 
 ghost use Rattle.std.specs.Prelude.{◌≡◌, length};
 ghost use Rattle.x86_settings.specs.Bits.{is_set, with_set};
-ghost use Rattle.x86_settings.specs.Settings.{amx, amx_bf16, amx_tile, amx_int8, amx_fp16, amx_ifma, amx_ne_convert, amx_vnni_int8, amx_complex, amx_vnni_int16, amx_movrs, amx_fp8, amx_tf32};
+ghost use Rattle.x86_settings.specs.Settings.{amx, amx_bf16, amx_tile, amx_int8, amx_fp16, amx_ifma, amx_ne_convert};
+ghost use Rattle.x86_settings.specs.Settings.{amx_vnni_int8, amx_complex, amx_vnni_int16, amx_movrs, amx_fp8, amx_tf32};
 
 use crate::decoder::InstDecoder;
 

@@ -2,7 +2,10 @@
 
 ghost use Rattle.std.specs.Prelude.{◌≡◌, length};
 ghost use Rattle.x86_settings.specs.Bits.{is_set, with_set};
-ghost use Rattle.x86_settings.specs.Settings.{avx512_4fmaps, avx512_4vnniw, avx512_bitalg, avx512_bw, avx512_cd, avx512_dq, avx512_er, avx512_f, avx512_fma, avx512_pf, avx512_vbmi, avx512_vbmi2, avx512_vl, avx512_vpopcntdq, avx512_fp16, avx512_vaes, avx512_gfni, avx512_vpclmulqdq, avx512_bf16, avx512_vnni, avx512_ifma};
+ghost use Rattle.x86_settings.specs.Settings.{avx512_4fmaps, avx512_4vnniw, avx512_bitalg, avx512_bw, avx512_cd};
+ghost use Rattle.x86_settings.specs.Settings.{avx512_dq, avx512_er, avx512_f, avx512_fma, avx512_pf, avx512_vbmi};
+ghost use Rattle.x86_settings.specs.Settings.{avx512_vbmi2, avx512_vl, avx512_vpopcntdq, avx512_fp16, avx512_vaes};
+ghost use Rattle.x86_settings.specs.Settings.{avx512_gfni, avx512_vpclmulqdq, avx512_bf16, avx512_vnni, avx512_ifma};
 ghost use Rattle.x86_settings.specs.Sets.{all_set, with_all_set};
 ghost use Rattle.x86_settings.specs.Composites.{avx512, avx10_1};
 

@@ -2,7 +2,8 @@
 
 ghost use Rattle.std.specs.Prelude.{◌≡◌, length};
 ghost use Rattle.x86_settings.specs.Bits.{is_set, with_set};
-ghost use Rattle.x86_settings.specs.Settings.{aesni, gfni, pclmulqdq, sha, vaes, vpclmulqdq, sm3, sm4, sm4_evex, keylocker};
+ghost use Rattle.x86_settings.specs.Settings.{aesni, gfni, pclmulqdq, sha, vaes, vpclmulqdq, sm3, sm4, sm4_evex};
+ghost use Rattle.x86_settings.specs.Settings.{keylocker};
 
 use crate::decoder::InstDecoder;
 

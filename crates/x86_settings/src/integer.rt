@@ -2,7 +2,8 @@
 
 ghost use Rattle.std.specs.Prelude.{◌≡◌, length};
 ghost use Rattle.x86_settings.specs.Bits.{is_set, with_set};
-ghost use Rattle.x86_settings.specs.Settings.{adx, bmi1, bmi2, cmov, cmpxchg16b, cx8, lahfsahf, lzcnt, movbe, popcnt, rdrand, rdseed, movdir64b, enqcmd, apx, movrs};
+ghost use Rattle.x86_settings.specs.Settings.{adx, bmi1, bmi2, cmov, cmpxchg16b, cx8, lahfsahf, lzcnt, movbe, popcnt};
+ghost use Rattle.x86_settings.specs.Settings.{rdrand, rdseed, movdir64b, enqcmd, apx, movrs};
 
 use crate::decoder::InstDecoder;
 

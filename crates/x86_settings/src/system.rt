@@ -2,7 +2,8 @@
 
 ghost use Rattle.std.specs.Prelude.{◌≡◌, length};
 ghost use Rattle.x86_settings.specs.Bits.{is_set, with_set};
-ghost use Rattle.x86_settings.specs.Settings.{invpcid, monitor, mpx, rdtscp, sgx, syscall, tsx, vmx, xsave, xsavec, xsaves, xsaveopt, fsgsbase, rdpid, fred, urdmsr, immediate_rdmsr, hreset};
+ghost use Rattle.x86_settings.specs.Settings.{invpcid, monitor, mpx, rdtscp, sgx, syscall, tsx, vmx, xsave, xsavec};
+ghost use Rattle.x86_settings.specs.Settings.{xsaves, xsaveopt, fsgsbase, rdpid, fred, urdmsr, immediate_rdmsr, hreset};
 
 use crate::decoder::InstDecoder;
 

@@ -1,5 +1,7 @@
 use Rattle.std.specs.Prelude.{ℕ, List, [], ◌∷◌, ◌++◌}
-use Rattle.x86_settings.specs.Settings.{cmov, cmpxchg16b, sse3, sse4_1, sse4_2, ssse3, popcnt, aesni, pclmulqdq, avx, f16c, rdrand, abm, avx2, bmi1, bmi2, fma3, tsx, adx, prefetchw, rdseed, mpx, sgx}
+use Rattle.x86_settings.specs.Settings.{cmov, cmpxchg16b, sse3, sse4_1, sse4_2, ssse3, popcnt, aesni, pclmulqdq, avx}
+use Rattle.x86_settings.specs.Settings.{f16c, rdrand, abm, avx2, bmi1, bmi2, fma3, tsx, adx, prefetchw, rdseed, mpx}
+use Rattle.x86_settings.specs.Settings.{sgx}
 
 -- the settings of Intel's NetBurst
 abbrev pub netburst : List ℕ

@@ -4,7 +4,8 @@ use Rattle.std.specs.Map.{lookup}
 use Rattle.x86_settings.specs.Bits.{no_bits, all_bits}
 use Rattle.x86_settings.specs.Sets.{exactly}
 use Rattle.x86_uarch.specs.Amd.{k8, k10, bulldozer, piledriver, steamroller, excavator, zen, zen2, zen3, zen4, zen5}
-use Rattle.x86_uarch.specs.Intel.{netburst, core, penryn, nehalem, westmere, sandybridge, ivybridge, haswell, haswell_ex, broadwell, skylake, kabylake}
+use Rattle.x86_uarch.specs.Intel.{netburst, core, penryn, nehalem, westmere, sandybridge, ivybridge, haswell}
+use Rattle.x86_uarch.specs.Intel.{haswell_ex, broadwell, skylake, kabylake}
 
 -- each name that a profile goes by, and its settings
 unfoldable pub profiles : List (List ℕ × List Bool)

@@ -2,7 +2,8 @@
 
 ghost use Rattle.std.specs.Prelude.{◌≡◌};
 ghost use Rattle.x86_settings.specs.Sets.{exactly};
-ghost use Rattle.x86_uarch.specs.Amd.{k8, k10, bulldozer, piledriver, steamroller, excavator, zen, zen2, zen3, zen4, zen5};
+ghost use Rattle.x86_uarch.specs.Amd.{k8, k10, bulldozer, piledriver, steamroller, excavator, zen, zen2, zen3, zen4};
+ghost use Rattle.x86_uarch.specs.Amd.{zen5};
 
 use x86_settings::InstDecoder;
 

@@ -2,7 +2,8 @@
 
 ghost use Rattle.std.specs.Prelude.{◌≡◌};
 ghost use Rattle.x86_settings.specs.Sets.{exactly};
-ghost use Rattle.x86_uarch.specs.Intel.{netburst, core, penryn, nehalem, westmere, sandybridge, ivybridge, haswell, haswell_ex, broadwell, skylake, kabylake};
+ghost use Rattle.x86_uarch.specs.Intel.{netburst, core, penryn, nehalem, westmere, sandybridge, ivybridge, haswell};
+ghost use Rattle.x86_uarch.specs.Intel.{haswell_ex, broadwell, skylake, kabylake};
 
 use x86_settings::InstDecoder;
 

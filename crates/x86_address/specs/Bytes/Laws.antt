@@ -1,7 +1,8 @@
 -- Lemmas on byte strings and on bytes that are packed from fields (ModRM, SIB and the bytes of a doubleword), which no
 -- contract cites.
 use Rattle.std.proofs.Common.{◌≡◌, ℕ, ◌+◌, ◌*◌, ◌/◌, ◌%◌, ◌^◌, ◌<◌, ◌≤◌, List, [], ◌∷◌, ◌++◌, length, arith}
-use Rattle.x86_address.specs.Bytes.{IsBytes, doubleword_bytes, Displacement, Absent, Short, Long, IsDisplacement, displacement_bytes}
+use Rattle.x86_address.specs.Bytes.{IsBytes, doubleword_bytes, Displacement, Absent, Short, Long, IsDisplacement}
+use Rattle.x86_address.specs.Bytes.{displacement_bytes}
 
 -- ---- fields
 
@@ -18,7 +19,8 @@ pub low_field : (m reg rm : ℕ) → rm < 8 → (64 * m + 8 * reg + rm) % 8 ≡ 
 low_field m reg rm q = omega arith
 
 -- equal packed bytes have equal fields
-pub same_fields : (m reg rm m' reg' rm' : ℕ) → reg < 8 → rm < 8 → reg' < 8 → rm' < 8 → 64 * m + 8 * reg + rm ≡ 64 * m' + 8 * reg' + rm' → (m ≡ m') × (reg ≡ reg') × (rm ≡ rm')
+pub same_fields : (m reg rm m' reg' rm' : ℕ) → reg < 8 → rm < 8 → reg' < 8 → rm' < 8
+    → 64 * m + 8 * reg + rm ≡ 64 * m' + 8 * reg' + rm' → (m ≡ m') × (reg ≡ reg') × (rm ≡ rm')
 same_fields m reg rm m' reg' rm' p q p' q' e = (omega arith, omega arith, omega arith)
 
 -- a byte is packed from its fields
@@ -38,11 +40,13 @@ pub low_field_below : (n : ℕ) → n % 8 < 8
 low_field_below n = omega arith
 
 -- a doubleword is the sum of its bytes
-pub doubleword_of_bytes : (n : ℕ) → n < 2 ^ 32 → n % 256 + 256 * ((n / 256) % 256) + 65536 * ((n / 65536) % 256) + 16777216 * ((n / 16777216) % 256) ≡ n
+pub doubleword_of_bytes : (n : ℕ) → n < 2 ^ 32
+    → n % 256 + 256 * ((n / 256) % 256) + 65536 * ((n / 65536) % 256) + 16777216 * ((n / 16777216) % 256) ≡ n
 doubleword_of_bytes n p = omega arith
 
 -- four bytes are those of the doubleword that they make
-pub bytes_of_doubleword : (a b c d : ℕ) → a < 256 → b < 256 → c < 256 → d < 256 → doubleword_bytes (a + 256 * b + 65536 * c + 16777216 * d) ≡ a ∷ b ∷ c ∷ d ∷ []
+pub bytes_of_doubleword : (a b c d : ℕ) → a < 256 → b < 256 → c < 256 → d < 256
+    → doubleword_bytes (a + 256 * b + 65536 * c + 16777216 * d) ≡ a ∷ b ∷ c ∷ d ∷ []
 bytes_of_doubleword a b c d p q r s =
     let n = a + 256 * b + 65536 * c + 16777216 * d in
     let lowest : n % 256 ≡ a = omega arith in

@@ -2,8 +2,10 @@
 use Rattle.std.proofs.Common.{◌≡◌, ◌≢◌, ◌⊎◌, inl, inr, true, ℕ, ◌+◌, ◌*◌, ◌<◌, ◌≤◌, [], ◌∷◌, length, refl, arith}
 use Rattle.x86_operand.specs.Kind.{Kind, WithoutModRM, InRegister, InMemory, VectorIndexed, is_vector, plain_kind}
 use Rattle.x86_address.specs.Bytes.{IsBytes, Displacement, Absent, Short, Long}
-use Rattle.x86_address.specs.Bytes.Laws.{packed_below, IsBytes-doubleword_bytes, IsBytes-displacement_bytes, displacement_length}
-use Rattle.x86_address.specs.Place.{Place, NoPlace, Direct, Based, RipBased, Scaled, Baseless, IsPlace, kind_of, has_sib, mod_of_displacement, mod_of, rm_of, tail_of, place_bytes}
+use Rattle.x86_address.specs.Bytes.Laws.{packed_below, IsBytes-doubleword_bytes, IsBytes-displacement_bytes}
+use Rattle.x86_address.specs.Bytes.Laws.{displacement_length}
+use Rattle.x86_address.specs.Place.{Place, NoPlace, Direct, Based, RipBased, Scaled, Baseless, IsPlace, kind_of}
+use Rattle.x86_address.specs.Place.{has_sib, mod_of_displacement, mod_of, rm_of, tail_of, place_bytes}
 
 -- in memory the field rm is 4 where there is a SIB byte, and nowhere else
 pub sib_by_rm : (p : Place) → IsPlace p → kind_of p ≡ InMemory → rm_of p ≡ 4 → has_sib p ≡ true
@@ -45,7 +47,8 @@ has_modrm (Direct rm) h = inl refl
 has_modrm _ h = inr refl
 
 -- it is the first of its bytes
-pub place_bytes_split : (reg : ℕ) (p : Place) → (kind_of p ≡ InRegister) ⊎ (kind_of p ≡ InMemory) → place_bytes reg p ≡ (64 * mod_of p + 8 * reg + rm_of p) ∷ tail_of p
+pub place_bytes_split : (reg : ℕ) (p : Place) → (kind_of p ≡ InRegister) ⊎ (kind_of p ≡ InMemory)
+    → place_bytes reg p ≡ (64 * mod_of p + 8 * reg + rm_of p) ∷ tail_of p
 place_bytes_split reg NoPlace h = grind arith
 place_bytes_split reg _ h = refl
 
@@ -101,7 +104,8 @@ tail_length (Scaled k i j d) = omega (arith, displacement_length d)
 tail_length (Baseless k i n) = omega arith
 
 -- a place with a ModRM byte has one to six bytes
-pub place_bytes_length : (reg : ℕ) (p : Place) → (kind_of p ≡ InRegister) ⊎ (kind_of p ≡ InMemory) → (1 ≤ length (place_bytes reg p)) × (length (place_bytes reg p) ≤ 6)
+pub place_bytes_length : (reg : ℕ) (p : Place) → (kind_of p ≡ InRegister) ⊎ (kind_of p ≡ InMemory)
+    → (1 ≤ length (place_bytes reg p)) × (length (place_bytes reg p) ≤ 6)
 place_bytes_length reg p h = rw (place_bytes_split reg p h) (omega (arith, tail_length p))
 
 -- a place without ModRM has no bytes

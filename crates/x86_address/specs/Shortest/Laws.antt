@@ -1,16 +1,25 @@
 -- Lemmas on the shortest place of a target, which no contract cites: it is a place, it names what any place names, and
 -- none is shorter.
-use Rattle.std.proofs.Common.{◌≡◌, ◌≢◌, ◌⊎◌, inl, inr, ℕ, zero, suc, ◌+◌, ◌-◌, ◌*◌, ◌%◌, ◌^◌, ◌<◌, ◌≤◌, ℤ, pos, negsuc, Bool, true, false, not, ◌&&◌, ◌||◌, nat_lt, ◌==◌, length, Option, Some, None, if◌then◌else◌, FitsSigned, refl, sym, ap, ◌∙◌, subst, arith, ne_eqb, eqb-true, eq-eqb, ltb-true, ltb-false, rules, w8, w32}
+use Rattle.std.proofs.Common.{◌≡◌, ◌≢◌, ◌⊎◌, inl, inr, ℕ, zero, suc, ◌+◌, ◌-◌, ◌*◌, ◌%◌, ◌^◌, ◌<◌, ◌≤◌, ℤ, pos, negsuc}
+use Rattle.std.proofs.Common.{Bool, true, false, not, ◌&&◌, ◌||◌, nat_lt, ◌==◌, length, Option, Some, None}
+use Rattle.std.proofs.Common.{if◌then◌else◌, FitsSigned, refl, sym, ap, ◌∙◌, subst, arith, ne_eqb, eqb-true, eq-eqb}
+use Rattle.std.proofs.Common.{ltb-true, ltb-false, rules, w8, w32}
 use Rattle.std.specs.Int.{cast_signed}
 use Rattle.std.proofs.lemmas.Bool.{eqb-false, cond_both, or_parts}
 use Rattle.std.proofs.lemmas.Bool.Decides.{nat_tests}
 use Rattle.std.proofs.lemmas.Int.{ints}
 use Rattle.x86_operand.specs.Kind.{InMemory}
 use Rattle.x86_operand.specs.declared.register.RegisterBank.{RegisterBank}
-use Rattle.x86_address.specs.Bytes.{bit, Displacement, Absent, Short, Long, IsDisplacement, displacement_bytes, displacement_value}
-use Rattle.x86_address.specs.Place.{Place, NoPlace, Direct, Based, RipBased, Scaled, Baseless, MayBeBase, IsPlace, kind_of, has_sib, place_bytes, Base, NoBase, Rip, Numbered, PlainAddress, Target, NoTarget, Number, At, kind_of_target, index_of, target}
+use Rattle.x86_address.specs.Bytes.{bit, Displacement, Absent, Short, Long, IsDisplacement, displacement_bytes}
+use Rattle.x86_address.specs.Bytes.{displacement_value}
+use Rattle.x86_address.specs.Place.{Place, NoPlace, Direct, Based, RipBased, Scaled, Baseless, MayBeBase, IsPlace}
+use Rattle.x86_address.specs.Place.{kind_of, has_sib, place_bytes, Base, NoBase, Rip, Numbered, PlainAddress, Target}
+use Rattle.x86_address.specs.Place.{NoTarget, Number, At, kind_of_target, index_of, target}
 use Rattle.x86_address.specs.Bytes.Laws.{displacement_length}
-use Rattle.x86_address.specs.Shortest.{plain, plain_base, plain_index, in_banks, base_register, index_register, doubleword_of, shortest_displacement, exponent_of, exponent_field, index_field, has_index, place_of_numbered, place_of_base, shortest, is_upper, x_of_index, b_of_base, x_of, b_of, IsBase, MayBeIndex, IsIndex, IsSpellable}
+use Rattle.x86_address.specs.Shortest.{plain, plain_base, plain_index, in_banks, base_register, index_register}
+use Rattle.x86_address.specs.Shortest.{doubleword_of, shortest_displacement, exponent_of, exponent_field, index_field}
+use Rattle.x86_address.specs.Shortest.{has_index, place_of_numbered, place_of_base, shortest, is_upper, x_of_index}
+use Rattle.x86_address.specs.Shortest.{b_of_base, x_of, b_of, IsBase, MayBeIndex, IsIndex, IsSpellable}
 
 -- ---- displacements
 
@@ -28,13 +37,15 @@ data IsShortest (must : Bool) : ℤ → Displacement → Type 0 where
   long_negative : {n : ℕ} → 128 ≤ n → IsShortest must (negsuc n) (Long (doubleword_of (negsuc n)))
 
 -- the choice at 0 and above, by its tests
-chosen : (must : Bool) (n : ℕ) (none small : Bool) → (n == 0 && not must) ≡ none → nat_lt n 128 ≡ small → IsShortest must (pos n) (if none then Absent else if small then Short n else Long (doubleword_of (pos n)))
+chosen : (must : Bool) (n : ℕ) (none small : Bool) → (n == 0 && not must) ≡ none → nat_lt n 128 ≡ small
+    → IsShortest must (pos n) (if none then Absent else if small then Short n else Long (doubleword_of (pos n)))
 chosen must n true small e f = absent (grind (arith, nat_tests)) (grind (arith, nat_tests))
 chosen must n false true e f = short (ltb-true n 128 f) (λ z. grind (arith, nat_tests))
 chosen must n false false e f = long (ltb-false n 128 f)
 
 -- the choice below 0, by its test
-chosen_negative : (must : Bool) (n : ℕ) (small : Bool) → nat_lt n 128 ≡ small → IsShortest must (negsuc n) (if small then Short (255 - n) else Long (doubleword_of (negsuc n)))
+chosen_negative : (must : Bool) (n : ℕ) (small : Bool) → nat_lt n 128 ≡ small
+    → IsShortest must (negsuc n) (if small then Short (255 - n) else Long (doubleword_of (negsuc n)))
 chosen_negative must n true f = short_negative (ltb-true n 128 f)
 chosen_negative must n false f = long_negative (ltb-false n 128 f)
 
@@ -73,7 +84,8 @@ value_of_doubleword (pos n) h = omega (arith, ints)
 value_of_doubleword (negsuc n) h = high_doubleword n (omega arith)
 
 -- it has the value that it was chosen for
-value-shortest : {must : Bool} {z : ℤ} {d : Displacement} → IsShortest must z d → FitsSigned w32 z → displacement_value d ≡ z
+value-shortest : {must : Bool} {z : ℤ} {d : Displacement} → IsShortest must z d → FitsSigned w32 z
+    → displacement_value d ≡ z
 value-shortest (absent e f) h = ap pos (sym e)
 value-shortest (short l e) h = omega (arith, ints)
 value-shortest (long {n = n} l) h = value_of_doubleword (pos n) h
@@ -87,7 +99,9 @@ fits_value (Short n) ok = search rules
 fits_value (Long n) ok = search rules
 
 -- no displacement of the value is shorter
-shortest_displacement-least : (must : Bool) (z : ℤ) (d least : Displacement) → IsShortest must z least → displacement_value d ≡ z → IsDisplacement d → (must ≡ true → d ≢ Absent) → length (displacement_bytes least) ≤ length (displacement_bytes d)
+shortest_displacement-least : (must : Bool) (z : ℤ) (d least : Displacement) → IsShortest must z least
+    → displacement_value d ≡ z → IsDisplacement d → (must ≡ true → d ≢ Absent)
+    → length (displacement_bytes least) ≤ length (displacement_bytes d)
 shortest_displacement-least must z (Long n) least s v ok h = displacement_length least
 shortest_displacement-least must z d least (absent e f) v ok h = omega arith
 shortest_displacement-least must z Absent least (short l e) v ok h = absurd (h (e (grind arith)) refl)
@@ -155,18 +169,21 @@ none_parts false four e = (refl, e)
 none_parts true four e = cc
 
 -- the fields and X of an index name it
-index_again : (vector : Bool) (index : Option (ℕ × ℕ)) → IsIndex vector index → index_of vector (exponent_field index) (index_field index) (x_of_index index) ≡ index
+index_again : (vector : Bool) (index : Option (ℕ × ℕ)) → IsIndex vector index
+    → index_of vector (exponent_field index) (index_field index) (x_of_index index) ≡ index
 index_again false None ok = refl
 index_again true None ok = cc
 index_again vector (Some index) ok =
     let number = number_again index.0 ok.0 in
-    rw (number, not_none vector index.0 ok.1) (ap (λ scale. Some (index.0, scale)) (rw (ok.4, exponent_again ok.2 ok.3)))
+    rw (number, not_none vector index.0 ok.1)
+    (ap (λ scale. Some (index.0, scale)) (rw (ok.4, exponent_again ok.2 ok.3)))
 
 -- fields and X name an index in range
 IsIndex-index_of : (vector : Bool) (k i : ℕ) (x : Bool) → k < 4 → i < 8 → IsIndex vector (index_of vector k i x)
 IsIndex-index_of vector k i x p q = by_test (i + 8 * bit x) (numbered_below i x q) _ refl
   where
-    by_test : (n : ℕ) → n < 16 → (none : Bool) → (not vector && n == 4) ≡ none → IsIndex vector (if none then None else Some (n, 2 ^ k))
+    by_test : (n : ℕ) → n < 16 → (none : Bool) → (not vector && n == 4) ≡ none
+        → IsIndex vector (if none then None else Some (n, 2 ^ k))
     by_test n h true e = (none_parts vector (n == 4) e).0
     by_test n h false e = (h, may_be_index vector n e, k, p, refl)
 
@@ -174,23 +191,35 @@ IsIndex-index_of vector k i x p q = by_test (i + 8 * bit x) (numbered_below i x 
 x_of-index_of : (vector : Bool) (k i : ℕ) (x : Bool) → i < 8 → x_of_index (index_of vector k i x) ≡ x
 x_of-index_of vector k i x p = by_test (i + 8 * bit x) (is_upper-field i x p) _ refl
   where
-    by_test : (n : ℕ) → is_upper n ≡ x → (none : Bool) → (not vector && n == 4) ≡ none → x_of_index (if none then None else Some (n, 2 ^ k)) ≡ x
+    by_test : (n : ℕ) → is_upper n ≡ x → (none : Bool) → (not vector && n == 4) ≡ none
+        → x_of_index (if none then None else Some (n, 2 ^ k)) ≡ x
     by_test n h true e = sym (ap is_upper (eqb-true n 4 (none_parts vector (n == 4) e).1)) ∙ h
     by_test n h false e = h
 
 -- ---- the shortest place
 
 -- with a base register it has a SIB byte, or there is no index and the base field is not 4
-numbered_either : (P : Place → Type 0) (n : ℕ) (index : Option (ℕ × ℕ)) (z : ℤ) → ((has_index index || n % 8 == 4) ≡ true → P (Scaled (exponent_field index) (index_field index) (n % 8) (shortest_displacement (n % 8 == 5) z))) → (has_index index ≡ false → n % 8 ≢ 4 → P (Based (n % 8) (shortest_displacement (n % 8 == 5) z))) → P (place_of_numbered n index z)
+numbered_either : (P : Place → Type 0) (n : ℕ) (index : Option (ℕ × ℕ)) (z : ℤ)
+    → ((has_index index || n % 8 == 4) ≡ true
+    → P (Scaled (exponent_field index) (index_field index) (n % 8) (shortest_displacement (n % 8 == 5) z)))
+    → (has_index index ≡ false → n % 8 ≢ 4 → P (Based (n % 8) (shortest_displacement (n % 8 == 5) z)))
+    → P (place_of_numbered n index z)
 numbered_either P n index z scaled based =
-    cond_both (has_index index || n % 8 == 4) _ _ P scaled (λ none. based (or_parts _ _ none).0 (eqb-false (n % 8) 4 (or_parts _ _ none).1))
+    cond_both (has_index index || n % 8 == 4) _ _ P scaled
+    (λ none. based (or_parts _ _ none).0 (eqb-false (n % 8) 4 (or_parts _ _ none).1))
 
 -- with a base register it is a place
 IsPlace-place_of_numbered : (n : ℕ) (index : Option (ℕ × ℕ)) (z : ℤ) → IsPlace (place_of_numbered n index z)
 IsPlace-place_of_numbered n index z =
     let d = is_shortest (n % 8 == 5) z in
     numbered_either IsPlace n index z
-    (λ sib. (exponent_field_below index, index_field_below index, omega arith, MayBeBase-shortest (n % 8) d, IsDisplacement-shortest d))
+    (λ sib. (
+      exponent_field_below index,
+      index_field_below index,
+      omega arith,
+      MayBeBase-shortest (n % 8) d,
+      IsDisplacement-shortest d,
+    ))
     (λ none other. (omega arith, other, MayBeBase-shortest (n % 8) d, IsDisplacement-shortest d))
 
 -- with each base it is a place
@@ -210,7 +239,8 @@ is_place-shortest (At a) = IsPlace-place_of_base a.base a.index a.disp
 kind_of_base : (base : Base) (index : Option (ℕ × ℕ)) (z : ℤ) → kind_of (place_of_base base index z) ≡ InMemory
 kind_of_base NoBase index z = refl
 kind_of_base Rip index z = refl
-kind_of_base (Numbered n) index z = numbered_either (λ p. kind_of p ≡ InMemory) n index z (λ sib. refl) (λ none other. refl)
+kind_of_base (Numbered n) index z = numbered_either (λ p. kind_of p ≡ InMemory) n index z (λ sib. refl)
+    (λ none other. refl)
 
 -- its kind is the target's
 pub kind_of-shortest : (e : Target) → kind_of (shortest e) ≡ kind_of_target e
@@ -234,17 +264,22 @@ no_index None h = refl
 no_index (Some index) h = cc
 
 -- the place of an address that bytes can name names it
-named_again : (vector : Bool) (base : Base) (index : Option (ℕ × ℕ)) (z : ℤ) → IsBase base → IsIndex vector index → FitsSigned w32 z → (base ≡ Rip → index ≡ None) → target vector (place_of_base base index z) (x_of_index index) (b_of_base base) ≡ At (record { base = base; index = index; disp = z })
+named_again : (vector : Bool) (base : Base) (index : Option (ℕ × ℕ)) (z : ℤ) → IsBase base → IsIndex vector index
+    → FitsSigned w32 z → (base ≡ Rip → index ≡ None)
+    → target vector (place_of_base base index z) (x_of_index index) (b_of_base base)
+    ≡ At (record { base = base; index = index; disp = z })
 named_again vector NoBase index z p q fits alone = rw (index_again vector index q, value_of_doubleword z fits)
 named_again vector Rip index z p q fits alone = rw (value_of_doubleword z fits, alone refl)
 named_again vector (Numbered n) index z p q fits alone =
     let d = value-shortest (is_shortest (n % 8 == 5) z) fits in
-    numbered_either (λ place. target vector place (x_of_index index) (is_upper n) ≡ At (record { base = Numbered n; index = index; disp = z })) n index z
+    numbered_either (λ place. target vector place (x_of_index index) (is_upper n)
+    ≡ At (record { base = Numbered n; index = index; disp = z })) n index z
     (λ sib. rw (number_again n p, index_again vector index q, d))
     (λ none other. rw (number_again n p, d, no_index index none))
 
 -- the shortest place names each target that bytes can name, with the bits that it demands
-pub names-shortest : (vector : Bool) (e : Target) → IsSpellable vector e → target vector (shortest e) (x_of e) (b_of e) ≡ e
+pub names-shortest : (vector : Bool) (e : Target) → IsSpellable vector e
+    → target vector (shortest e) (x_of e) (b_of e) ≡ e
 unfolding shortest
 names-shortest vector NoTarget ok = refl
 names-shortest vector (Number n) ok = ap Number (number_again n ok)
@@ -256,11 +291,13 @@ plain_without_sib false sib = refl
 plain_without_sib true sib = sym (sib refl)
 
 -- with a vector register as the index there is a SIB byte
-vector_with_sib : (base : Base) (index : Option (ℕ × ℕ)) (z : ℤ) → IsIndex true index → (base ≡ Rip → index ≡ None) → has_sib (place_of_base base index z) ≡ true
+vector_with_sib : (base : Base) (index : Option (ℕ × ℕ)) (z : ℤ) → IsIndex true index → (base ≡ Rip → index ≡ None)
+    → has_sib (place_of_base base index z) ≡ true
 vector_with_sib NoBase index z ok alone = refl
 vector_with_sib Rip index z ok alone = let never : true ≡ false = subst (IsIndex true) (alone refl) ok in cc
 vector_with_sib (Numbered n) index z ok alone =
-    numbered_either (λ p. has_sib p ≡ true) n index z (λ sib. refl) (λ none other. sym (subst (IsIndex true) (no_index index none) ok))
+    numbered_either (λ p. has_sib p ≡ true) n index z (λ sib. refl)
+    (λ none other. sym (subst (IsIndex true) (no_index index none) ok))
 
 pub sib-shortest : (e : Target) → kind_of_target e ≡ InMemory → IsSpellable true e → has_sib (shortest e) ≡ true
 unfolding shortest
@@ -269,7 +306,8 @@ sib-shortest (Number n) memory ok = cc
 sib-shortest (At a) memory ok = vector_with_sib a.base a.index a.disp ok.index ok.alone
 
 -- what a place names, bytes can name
-pub IsSpellable-target : (vector : Bool) (p : Place) (x b : Bool) → IsPlace p → (vector ≡ true → has_sib p ≡ true) → IsSpellable vector (target vector p x b)
+pub IsSpellable-target : (vector : Bool) (p : Place) (x b : Bool) → IsPlace p → (vector ≡ true → has_sib p ≡ true)
+    → IsSpellable vector (target vector p x b)
 IsSpellable-target vector NoPlace x b ok sib = tt
 IsSpellable-target vector (Direct rm) x b ok sib = numbered_below rm b ok
 IsSpellable-target vector (Based rm d) x b ok sib = record {
@@ -304,27 +342,39 @@ not_absent field (Short n) base five = λ e. cc
 not_absent field (Long n) base five = λ e. cc
 
 -- no displacement of its value beside a base field is shorter than the one chosen
-least_displacement : (n field : ℕ) (d : Displacement) → field ≡ n → MayBeBase field d → IsDisplacement d → length (displacement_bytes (shortest_displacement (n == 5) (displacement_value d))) ≤ length (displacement_bytes d)
-least_displacement n field d e base ok = subst (λ m. length (displacement_bytes (shortest_displacement (m == 5) (displacement_value d))) ≤ length (displacement_bytes d)) e (shortest_displacement-least (field == 5) (displacement_value d) d _ (is_shortest (field == 5) (displacement_value d)) refl ok (not_absent field d base))
+least_displacement : (n field : ℕ) (d : Displacement) → field ≡ n → MayBeBase field d → IsDisplacement d
+    → length (displacement_bytes (shortest_displacement (n == 5) (displacement_value d))) ≤ length
+    (displacement_bytes d)
+least_displacement n field d e base ok =
+    subst (λ m. length (displacement_bytes (shortest_displacement (m == 5) (displacement_value d))) ≤ length
+    (displacement_bytes d)) e (shortest_displacement-least (field == 5) (displacement_value d) d _
+    (is_shortest (field == 5) (displacement_value d)) refl ok (not_absent field d base))
 
 -- with a base register, none with SIB is shorter
-least_numbered : (reg field : ℕ) (b : Bool) (index : Option (ℕ × ℕ)) (d : Displacement) → field < 8 → MayBeBase field d → IsDisplacement d → length (place_bytes reg (place_of_numbered (field + 8 * bit b) index (displacement_value d))) ≤ suc (suc (length (displacement_bytes d)))
+least_numbered : (reg field : ℕ) (b : Bool) (index : Option (ℕ × ℕ)) (d : Displacement) → field < 8 → MayBeBase field d
+    → IsDisplacement d → length (place_bytes reg (place_of_numbered (field + 8 * bit b) index (displacement_value d)))
+    ≤ suc (suc (length (displacement_bytes d)))
 least_numbered reg field b index d below base ok =
     let least = least_displacement ((field + 8 * bit b) % 8) field d (sym (low_field_again field b below)) base ok in
-    numbered_either (λ p. length (place_bytes reg p) ≤ suc (suc (length (displacement_bytes d)))) (field + 8 * bit b) index (displacement_value d)
+    numbered_either (λ p. length (place_bytes reg p) ≤ suc (suc (length (displacement_bytes d)))) (field + 8 * bit b)
+    index (displacement_value d)
     (λ sib. omega arith)
     (λ none other. omega arith)
 
 -- without an index and with another base field than 4, none is shorter
-least_based : (reg rm : ℕ) (b : Bool) (d : Displacement) → rm < 8 → rm ≢ 4 → MayBeBase rm d → IsDisplacement d → length (place_bytes reg (place_of_numbered (rm + 8 * bit b) None (displacement_value d))) ≤ suc (length (displacement_bytes d))
+least_based : (reg rm : ℕ) (b : Bool) (d : Displacement) → rm < 8 → rm ≢ 4 → MayBeBase rm d → IsDisplacement d
+    → length (place_bytes reg (place_of_numbered (rm + 8 * bit b) None (displacement_value d))) ≤ suc
+    (length (displacement_bytes d))
 least_based reg rm b d below four base ok =
     let least = least_displacement ((rm + 8 * bit b) % 8) rm d (sym (low_field_again rm b below)) base ok in
-    numbered_either (λ p. length (place_bytes reg p) ≤ suc (length (displacement_bytes d))) (rm + 8 * bit b) None (displacement_value d)
+    numbered_either (λ p. length (place_bytes reg p) ≤ suc (length (displacement_bytes d))) (rm + 8 * bit b) None
+    (displacement_value d)
     (λ sib. absurd (four (sym (low_field_again rm b below) ∙ eqb-true _ 4 sib)))
     (λ none other. omega arith)
 
 -- no place that names the target has fewer bytes
-pub shortest-least : (vector : Bool) (p : Place) (x b : Bool) (reg reg' : ℕ) → IsPlace p → length (place_bytes reg (shortest (target vector p x b))) ≤ length (place_bytes reg' p)
+pub shortest-least : (vector : Bool) (p : Place) (x b : Bool) (reg reg' : ℕ) → IsPlace p
+    → length (place_bytes reg (shortest (target vector p x b))) ≤ length (place_bytes reg' p)
 unfolding shortest
 shortest-least vector NoPlace x b reg reg' ok = omega arith
 shortest-least vector (Direct rm) x b reg reg' ok = omega arith
@@ -334,7 +384,8 @@ shortest-least vector (Scaled k i j d) x b reg reg' ok = least_numbered reg j b 
 shortest-least vector (Baseless k i n) x b reg reg' ok = omega arith
 
 -- X plays no part, or is the bit that the target demands
-pub x_fixed_or_ignored : (vector : Bool) (p : Place) (x b : Bool) → IsPlace p → ((x' : Bool) → target vector p x' b ≡ target vector p x b) ⊎ (x_of (target vector p x b) ≡ x)
+pub x_fixed_or_ignored : (vector : Bool) (p : Place) (x b : Bool) → IsPlace p
+    → ((x' : Bool) → target vector p x' b ≡ target vector p x b) ⊎ (x_of (target vector p x b) ≡ x)
 x_fixed_or_ignored vector NoPlace x b ok = inl (λ x'. refl)
 x_fixed_or_ignored vector (Direct rm) x b ok = inl (λ x'. refl)
 x_fixed_or_ignored vector (Based rm d) x b ok = inl (λ x'. refl)
@@ -343,7 +394,8 @@ x_fixed_or_ignored vector (Scaled k i j d) x b ok = inr (x_of-index_of vector k 
 x_fixed_or_ignored vector (Baseless k i n) x b ok = inr (x_of-index_of vector k i x ok.1)
 
 -- B plays no part, or is the bit that the target demands
-pub b_fixed_or_ignored : (vector : Bool) (p : Place) (x b : Bool) → IsPlace p → ((b' : Bool) → target vector p x b' ≡ target vector p x b) ⊎ (b_of (target vector p x b) ≡ b)
+pub b_fixed_or_ignored : (vector : Bool) (p : Place) (x b : Bool) → IsPlace p
+    → ((b' : Bool) → target vector p x b' ≡ target vector p x b) ⊎ (b_of (target vector p x b) ≡ b)
 b_fixed_or_ignored vector NoPlace x b ok = inl (λ b'. refl)
 b_fixed_or_ignored vector (Direct rm) x b ok = inr (is_upper-field rm b ok)
 b_fixed_or_ignored vector (Based rm d) x b ok = inr (is_upper-field rm b ok.0)
@@ -384,4 +436,9 @@ plain_index-register bank (Some index) = refl
 
 -- an address that gets banks and loses them is as before
 pub plain-in_banks : (bank : RegisterBank) (a : PlainAddress) → plain (in_banks bank a) ≡ a
-plain-in_banks bank a = λ i. record { base = plain_base-register a.base i; index = plain_index-register bank a.index i; disp = a.disp }
+plain-in_banks bank a = λ i. record {
+  base = plain_base-register a.base i;
+  index =
+      plain_index-register bank a.index i;
+  disp = a.disp;
+}

@@ -1,5 +1,6 @@
 -- The number tells opcodes apart.
-use Rattle.std.proofs.Common.{◌≡◌, ℕ, suc, zero, ◌+◌, Bool, true, ◌&&◌, ◌==◌, List, [], ◌∷◌, Some, slice_get, sym, ◌∙◌, ap, refl, zero-add, add-zero, arith}
+use Rattle.std.proofs.Common.{◌≡◌, ℕ, suc, zero, ◌+◌, Bool, true, ◌&&◌, ◌==◌, List, [], ◌∷◌, Some, slice_get, sym, ◌∙◌}
+use Rattle.std.proofs.Common.{ap, refl, zero-add, add-zero, arith}
 use Rattle.std.proofs.lemmas.Bool.{eqb-true, eq-eqb, and_parts}
 use Rattle.x86_opcode.specs.declared.Opcode.{Opcode}
 use Rattle.x86_opcode.specs.declared.list.TheConstants.{ALL}
@@ -26,7 +27,8 @@ abbrev numbered : ℕ → List Opcode → Bool
 numbered k [] = true
 numbered k (o ∷ os) = (opcode_number o == k) && numbered (k + 1) os
 
-numbered-place : (k : ℕ) (os : List Opcode) → numbered k os ≡ true → (i : ℕ) (o : Opcode) → slice_get os i ≡ Some o → k + i ≡ opcode_number o
+numbered-place : (k : ℕ) (os : List Opcode) → numbered k os ≡ true → (i : ℕ) (o : Opcode) → slice_get os i ≡ Some o
+    → k + i ≡ opcode_number o
 numbered-place k [] h i o e = cc
 numbered-place k (p ∷ os) h zero o e =
     let same : p ≡ o = cc in

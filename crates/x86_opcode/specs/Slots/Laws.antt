@@ -14,7 +14,8 @@ abbrev each_found : List Opcode → Bool
 each_found [] = true
 each_found (o ∷ os) = same_opcode (opcode_at (slot (opcode_name o))) o && each_found os
 
-each_found-at : (os : List Opcode) → each_found os ≡ true → (i : ℕ) (o : Opcode) → slice_get os i ≡ Some o → opcode_at (slot (opcode_name o)) ≡ o
+each_found-at : (os : List Opcode) → each_found os ≡ true → (i : ℕ) (o : Opcode) → slice_get os i ≡ Some o
+    → opcode_at (slot (opcode_name o)) ≡ o
 each_found-at [] h i o e = cc
 each_found-at (p ∷ os) h zero o e =
     let same : p ≡ o = cc in rw (← same) (same_opcode_equal _ _ (and_parts _ _ h).0)

@@ -15,26 +15,32 @@ use Rattle.x86_operand.specs.declared.address.Index.{Index}
 use Rattle.x86_operand.specs.declared.address.Operand.{Operand}
 use Rattle.x86_operand.specs.declared.register.RegisterBank.{RegisterBank}
 use Rattle.x86_operand.specs.declared.register.RegisterBank.TheVariants.{Q, D, X, Y, Z, RIP}
-use Rattle.x86_operand.specs.Meaning.{OperandMeaning, register, signed, unsigned, memory, nothing, operand_meaning, Meaning, Decoded}
+use Rattle.x86_operand.specs.Meaning.{OperandMeaning, register, signed, unsigned, memory, nothing, operand_meaning}
+use Rattle.x86_operand.specs.Meaning.{Meaning, Decoded}
 use Rattle.x86_operand.specs.Register.{Register}
-use Rattle.x86_operand.specs.Same.{same_bank, same_register, same_index, same_address, same_operand, same_operands, same_meaning, same_decoded}
+use Rattle.x86_operand.specs.Same.{same_bank, same_register, same_index, same_address, same_operand, same_operands}
+use Rattle.x86_operand.specs.Same.{same_meaning, same_decoded}
 
 -- a test decides equality where it holds only of values that are one, and of each value and itself
-decides : {K : Type 0} (test : K → K → Bool) → ((x y : K) → test x y ≡ true → x ≡ y) → ((x : K) → test x x ≡ true) → (x y : K) → Decides (test x y) (x ≡ y)
+decides : {K : Type 0} (test : K → K → Bool) → ((x y : K) → test x y ≡ true → x ≡ y) → ((x : K) → test x x ≡ true)
+    → (x y : K) → Decides (test x y) (x ≡ y)
 decides test equal itself x y = (equal x y, λ e. subst (λ z. test x z ≡ true) e (itself x))
 
 -- where a test decides equality of values, the test of options by it decides that of options
-option_equal : {K : Type 0} (test : K → K → Bool) → ((x y : K) → Decides (test x y) (x ≡ y)) → (a b : Option K) → option_eq test a b ≡ true → a ≡ b
+option_equal : {K : Type 0} (test : K → K → Bool) → ((x y : K) → Decides (test x y) (x ≡ y)) → (a b : Option K)
+    → option_eq test a b ≡ true → a ≡ b
 option_equal test decided None None h = refl
 option_equal test decided None (Some y) h = cc
 option_equal test decided (Some x) None h = cc
 option_equal test decided (Some x) (Some y) h = ap Some ((decided x y).0 h)
 
-option_refl : {K : Type 0} (test : K → K → Bool) → ((x y : K) → Decides (test x y) (x ≡ y)) → (a : Option K) → option_eq test a a ≡ true
+option_refl : {K : Type 0} (test : K → K → Bool) → ((x y : K) → Decides (test x y) (x ≡ y)) → (a : Option K)
+    → option_eq test a a ≡ true
 option_refl test decided None = refl
 option_refl test decided (Some x) = (decided x x).1 refl
 
-option_decides : {K : Type 0} (test : K → K → Bool) → ((x y : K) → Decides (test x y) (x ≡ y)) → (a b : Option K) → Decides (option_eq test a b) (a ≡ b)
+option_decides : {K : Type 0} (test : K → K → Bool) → ((x y : K) → Decides (test x y) (x ≡ y)) → (a b : Option K)
+    → Decides (option_eq test a b) (a ≡ b)
 option_decides test decided = decides (option_eq test) (option_equal test decided) (option_refl test decided)
 
 -- ---- registers
@@ -149,7 +155,8 @@ pub same_operands_refl : (xs : List OperandMeaning) → same_operands xs xs ≡ 
 same_operands_refl xs = (same_operands_decides xs xs).1 refl
 
 -- operands of the code, compared one by one by what they mean
-pub written_decides : (xs ys : List Operand) → Decides (pointwise (on operand_meaning same_operand) xs ys) (map operand_meaning xs ≡ map operand_meaning ys)
+pub written_decides : (xs ys : List Operand)
+    → Decides (pointwise (on operand_meaning same_operand) xs ys) (map operand_meaning xs ≡ map operand_meaning ys)
 written_decides xs ys =
     let same = pointwise_decides same_operand_decides (map operand_meaning xs) (map operand_meaning ys) in
     rw pointwise-map at same
@@ -159,7 +166,8 @@ written_decides xs ys =
 pub size_decides : (a b : Option ℕ) → Decides (option_eq nat_eq a b) (a ≡ b)
 size_decides = option_decides nat_eq unsigned_Decides
 
-pub equal_meanings : (a b : Meaning) → a.evex ≡ b.evex → a.opcode ≡ b.opcode → a.operands ≡ b.operands → a.size ≡ b.size → a ≡ b
+pub equal_meanings : (a b : Meaning) → a.evex ≡ b.evex → a.opcode ≡ b.opcode → a.operands ≡ b.operands
+    → a.size ≡ b.size → a ≡ b
 equal_meanings a b evex opcode operands size =
     λ i. record { evex = evex i; opcode = opcode i; operands = operands i; size = size i }
 
@@ -209,4 +217,12 @@ pub ruleset address_parts = (same_register_decides, base_decides, indexed_decide
 pub ruleset meaning_parts = (written_decides, size_decides, equal_meanings)
 
 -- for callers that compare behind references, as `a == b` at two `&Address`
-pub ruleset sames = (same_register_decides, same_index_decides, same_address_decides, same_operand_decides, same_operands_decides, same_meaning_decides, same_decoded_decides)
+pub ruleset sames = (
+  same_register_decides,
+  same_index_decides,
+  same_address_decides,
+  same_operand_decides,
+  same_operands_decides,
+  same_meaning_decides,
+  same_decoded_decides,
+)

@@ -14,9 +14,11 @@ loop-i-preserved c =
     let i = c.loop-i.i in
     let before = operands_text (take i operands) in
     let operand = operand_text (operand_at operands i) in
-    let within : i < length operands = omega (arith, c.loop-i-test.true, c.operand_count-i-end.ensures.value, c.loop-i.auto.i-end) in (
+    let within : i < length operands = omega
+    (arith, c.loop-i-test.true, c.operand_count-i-end.ensures.value, c.loop-i.auto.i-end) in (
       c.append_operand.ensures.written
-          ∙ ap (λ t. t ++ operand_text (operand_meaning c.operand.result)) (c.push_str.ensures.bytes ∙ ap (λ t. t ++ codes " ") c.loop-i.invariant.0)
+          ∙ ap (λ t. t ++ operand_text (operand_meaning c.operand.result))
+          (c.push_str.ensures.bytes ∙ ap (λ t. t ++ codes " ") c.loop-i.invariant.0)
           ∙ ap (λ m. ((front ++ before) ++ codes " ") ++ operand_text m) c.operand.ensures.meaning
           ∙ append_assoc (front ++ before) (codes " ") operand
           ∙ append_assoc front before (codes " " ++ operand)

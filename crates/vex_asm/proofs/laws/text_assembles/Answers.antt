@@ -7,7 +7,8 @@ pub returns-in-Ok : goal.returns-in-Ok
 returns-in-Ok c =
     let recoded = c.in-Ok.ensures in
     decoded_text c.more_settings.ensures.same c.args.decoder.now c.args.bytes.now _ _ _
-    (record { not_blocked = recoded.begun.0 refl; within = recoded.within; spells = recoded.spelled }) c.instruction_in_range.ensures recoded.canonical
+    (record { not_blocked = recoded.begun.0 refl; within = recoded.within; spells = recoded.spelled })
+    c.instruction_in_range.ensures recoded.canonical
 
 pub returns-in-Err : goal.returns-in-Err
 returns-in-Err c = λ m n line decoded same. absurd (none-some _ (sym decoded.not_blocked ∙ c.in-Err.ensures.refused.1))

@@ -1,4 +1,5 @@
-use Rattle.std.proofs.Common.{◌≡◌, ◌≢◌, ◌<◌, ◌≤◌, ◌+◌, ◌-◌, ◌==◌, Some, None, Option, false, true, length, get_or, drop, take, ℕ, List, [], ◌∷◌, ◌++◌, refl, sym, ap, ◌∙◌, arith}
+use Rattle.std.proofs.Common.{◌≡◌, ◌≢◌, ◌<◌, ◌≤◌, ◌+◌, ◌-◌, ◌==◌, Some, None, Option, false, true, length, get_or, drop}
+use Rattle.std.proofs.Common.{take, ℕ, List, [], ◌∷◌, ◌++◌, refl, sym, ap, ◌∙◌, arith}
 use Rattle.std.proofs.lemmas.Grind.{common_steps}
 use Rattle.std.proofs.lemmas.Bool.{eq-eqb}
 use Rattle.std.proofs.lemmas.List.{append_assoc, drop_all}
@@ -23,21 +24,26 @@ later c b bs e = let no : (b == c) ≡ false = grind arith in rw no refl
 abbrev behind : List ℕ → Option (List ℕ × List ℕ) → Option (List ℕ × List ℕ)
 behind front o = o >>= λ p. Some (front ++ p.0, p.1)
 
-regroup : (front : List ℕ) (b : ℕ) (o : Option (List ℕ × List ℕ)) → behind front (o >>= λ p. Some (b ∷ p.0, p.1)) ≡ behind (front ++ (b ∷ [])) o
+regroup : (front : List ℕ) (b : ℕ) (o : Option (List ℕ × List ℕ))
+    → behind front (o >>= λ p. Some (b ∷ p.0, p.1)) ≡ behind (front ++ (b ∷ [])) o
 regroup front b None = refl
 regroup front b (Some p) = ap (λ x. Some (x, p.1)) (sym (append_assoc front (b ∷ []) p.0))
 
-stop : (c i : ℕ) (bs : List ℕ) → i < length bs → get_or bs i 0 ≡ c → cut c bs ≡ behind (take i bs) (cut c (drop i bs)) → Some (take i bs, take (length bs - (i + 1)) (drop (i + 1) bs)) ≡ cut c bs
+stop : (c i : ℕ) (bs : List ℕ) → i < length bs → get_or bs i 0 ≡ c → cut c bs ≡ behind (take i bs) (cut c (drop i bs))
+    → Some (take i bs, take (length bs - (i + 1)) (drop (i + 1) bs)) ≡ cut c bs
 stop c i bs h e inv =
     let found : cut c (drop i bs) ≡ Some ([], drop (i + 1) bs) = ap (cut c) (cons_at bs i h) ∙ here c _ _ e in
     let front : take i bs ++ [] ≡ take i bs = grind (arith, common_steps) in
     let back : take (length bs - (i + 1)) (drop (i + 1) bs) ≡ drop (i + 1) bs = grind (arith, common_steps) in
     sym (inv ∙ (ap (behind (take i bs)) found ∙ rw (front, back) refl))
 
-go : (c i : ℕ) (bs : List ℕ) → i < length bs → get_or bs i 0 ≢ c → cut c bs ≡ behind (take i bs) (cut c (drop i bs)) → cut c bs ≡ behind (take (i + 1) bs) (cut c (drop (i + 1) bs))
+go : (c i : ℕ) (bs : List ℕ) → i < length bs → get_or bs i 0 ≢ c → cut c bs ≡ behind (take i bs) (cut c (drop i bs))
+    → cut c bs ≡ behind (take (i + 1) bs) (cut c (drop (i + 1) bs))
 go c i bs h e inv =
     let found = ap (cut c) (cons_at bs i h) ∙ later c _ (drop (i + 1) bs) e in
-    inv ∙ (ap (behind (take i bs)) found ∙ (regroup (take i bs) (get_or bs i 0) (cut c (drop (i + 1) bs)) ∙ ap (λ front. behind front (cut c (drop (i + 1) bs))) (sym (take_at_more bs i h))))
+    inv ∙ (ap (behind (take i bs)) found ∙
+    (regroup (take i bs) (get_or bs i 0) (cut c (drop (i + 1) bs))
+    ∙ ap (λ front. behind front (cut c (drop (i + 1) bs))) (sym (take_at_more bs i h))))
 
 at_end : (c i : ℕ) (bs : List ℕ) → length bs ≤ i → cut c bs ≡ behind (take i bs) (cut c (drop i bs)) → None ≡ cut c bs
 unfolding cut

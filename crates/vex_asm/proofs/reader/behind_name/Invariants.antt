@@ -8,7 +8,8 @@ abbrev pub invariant-loop-word : goal.invariant-loop-word
 invariant-loop-word l = record {
   count : l.count ≤ 4;
   whole : length l.operands ≡ 4;
-  parts : behind (map operand_meaning (take l.count l.operands)) (rest_of (l.last ∷ line_parts l.rest)) ≡ rest_of (line_parts l.bytes);
+  parts : behind (map operand_meaning (take l.count l.operands)) (rest_of (l.last ∷ line_parts l.rest))
+      ≡ rest_of (line_parts l.bytes);
 }
 
 abbrev pub decreases-loop-word : goal.decreases-loop-word

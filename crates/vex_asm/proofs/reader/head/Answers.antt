@@ -7,12 +7,16 @@ use Rattle.vex_asm.proofs.reader.head.Goals as goal
 
 pub returns-in-Some-opcode-clause-only : goal.returns-in-Some-opcode-clause-only
 returns-in-Some-opcode-clause-only c = λ evex opcode e.
-    let whole : c.args.word.now ≡ c.as_slice.result.now ++ c.in-Some.name.now = strip_prefix_is (λ a b. (eqb-true a b, eq-eqb a b)) _ _ (Some c.in-Some.name) c.in-Some.ensures.cases in
-    let found = marked _ c.in-Some.name.now evex opcode (whole ∙ ap (λ p. p ++ c.in-Some.name.now) c.as_slice.ensures) e in
+    let whole : c.args.word.now ≡ c.as_slice.result.now ++ c.in-Some.name.now =
+    strip_prefix_is (λ a b. (eqb-true a b, eq-eqb a b)) _ _ (Some c.in-Some.name) c.in-Some.ensures.cases in
+    let found = marked _ c.in-Some.name.now evex opcode (whole ∙ ap (λ p. p ++ c.in-Some.name.now) c.as_slice.ensures)
+    e in
     rw (found.0) (ap (option_map (λ o. (true, o))) (c.in-Some-opcode.ensures.only opcode found.1))
 
 pub returns-in-None-opcode-clause-only : goal.returns-in-None-opcode-clause-only
 returns-in-None-opcode-clause-only c = λ evex opcode e.
-    let whole : c.args.word.now ≡ c.as_slice.result.now ++ c.in-Some.name.now = strip_prefix_is (λ a b. (eqb-true a b, eq-eqb a b)) _ _ (Some c.in-Some.name) c.in-Some.ensures.cases in
-    let found = marked _ c.in-Some.name.now evex opcode (whole ∙ ap (λ p. p ++ c.in-Some.name.now) c.as_slice.ensures) e in
+    let whole : c.args.word.now ≡ c.as_slice.result.now ++ c.in-Some.name.now =
+    strip_prefix_is (λ a b. (eqb-true a b, eq-eqb a b)) _ _ (Some c.in-Some.name) c.in-Some.ensures.cases in
+    let found = marked _ c.in-Some.name.now evex opcode (whole ∙ ap (λ p. p ++ c.in-Some.name.now) c.as_slice.ensures)
+    e in
     absurd (none-some opcode (c.in-None-opcode.ensures.only opcode found.1))

@@ -26,10 +26,13 @@ returns-clause-found c =
       operands = map operand_meaning (take c.in_ok-rest.rest.count c.in_ok-rest.rest.operands);
       size = c.in_ok-rest.rest.size;
     } in
-    found_text c.from_parts.result m _ c.from_parts.ensures.value (spelled _ _ _ m c.in_ok-name.ensures.parts c.in_ok-evex.ensures.found (sym c.in_ok-rest.ensures.value))
+    found_text c.from_parts.result m _ c.from_parts.ensures.value
+    (spelled _ _ _ m c.in_ok-name.ensures.parts c.in_ok-evex.ensures.found (sym c.in_ok-rest.ensures.value))
 
 pub returns-clause-only : goal.returns-clause-only
 returns-clause-only c = λ m h.
     let parts = meant _ _ _ m c.in_ok-name.ensures.parts h in
-    made_so _ _ _ (c.from_parts.ensures.within.1 (grind (arith, common_steps, c.in_ok-rest.ensures.count))) c.from_parts.ensures.value
-    (same_decoded _ _ _ _ _ _ _ _ (c.in_ok-evex.ensures.only m.evex m.opcode parts.0) (c.in_ok-rest.ensures.value ∙ parts.1))
+    made_so _ _ _ (c.from_parts.ensures.within.1 (grind (arith, common_steps, c.in_ok-rest.ensures.count)))
+    c.from_parts.ensures.value
+    (same_decoded _ _ _ _ _ _ _ _ (c.in_ok-evex.ensures.only m.evex m.opcode parts.0)
+    (c.in_ok-rest.ensures.value ∙ parts.1))

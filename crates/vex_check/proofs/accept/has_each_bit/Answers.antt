@@ -9,7 +9,8 @@ returns c =
     let all : length c.args.wanted.now ≡ 128 = c.loop-bit.invariant.1 (omega (arith, c.loop-bit-test.false)) in (
       λ _ i h. elim (cases_lt i c.loop-bit.bit) [
         | inl below ↦ c.loop-bit.invariant.0 i below h
-        | inr above ↦ absurd (false-is-not-true (sym (get_or_past c.args.wanted.now i false (omega (arith, all, above, c.loop-bit-test.false))) ∙ h))
+        | inr above ↦ absurd (false-is-not-true
+            (sym (get_or_past c.args.wanted.now i false (omega (arith, all, above, c.loop-bit-test.false))) ∙ h))
       ],
       λ _. refl,
     )

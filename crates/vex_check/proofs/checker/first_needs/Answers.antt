@@ -10,7 +10,8 @@ use Rattle.vex_check.proofs.checker.first_needs.Goals as goal
 pub returns-in-Err-clause-fault : goal.returns-in-Err-clause-fault
 returns-in-Err-clause-fault c =
     let blocked = c.in-Err.ensures.refused in
-    ap cause_of (subst (λ s. first_of_bytes s c.args.bytes.now ≡ Err c.in-Err.error) c.default.ensures (first-blocked _ c.args.bytes.now c.in-Err.error blocked.0 blocked.1))
+    ap cause_of (subst (λ s. first_of_bytes s c.args.bytes.now ≡ Err c.in-Err.error) c.default.ensures
+    (first-blocked _ c.args.bytes.now c.in-Err.error blocked.0 blocked.1))
 
 pub returns-in-Some-clause-first : goal.returns-in-Some-clause-first
 returns-in-Some-clause-first c =
@@ -27,4 +28,5 @@ returns-in-None-clause-fault c =
     (first-spelled c.default.result c.args.bytes.now c.in-Ok.instruction c.reading_is_spelling.ensures
     (are_bytes c.args.bytes.now (λ i. omega (arith, c.type_inv.bytes i))) (is.begun.0 refl) is.within is.spelled) in
     marked-unless _ c.in-Ok.instruction first
-    (λ unmarked. false-is-not-true (c.in-None.ensures.there.1 (unmarked, spelled-vex c.vex_opcodes.ensures _ _ is.spelled)))
+    (λ unmarked. false-is-not-true (c.in-None.ensures.there.1
+    (unmarked, spelled-vex c.vex_opcodes.ensures _ _ is.spelled)))

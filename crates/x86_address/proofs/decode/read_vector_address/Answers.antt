@@ -8,15 +8,19 @@ returns-clause-follows g c = placed_sib c.args.modrm c.requires.memory c.require
 
 pub returns-clause-spells : goal.returns-clause-spells
 returns-clause-spells g c =
-    if_spelled VectorIndexed c.args.modrm c.read_by_sib.result (after_vector c.requires.memory c.requires.sib) (placed_sib c.args.modrm c.requires.memory c.requires.sib c.read_by_sib.ensures)
+    if_spelled VectorIndexed c.args.modrm c.read_by_sib.result (after_vector c.requires.memory c.requires.sib)
+    (placed_sib c.args.modrm c.requires.memory c.requires.sib c.read_by_sib.ensures)
 
 pub returns-clause-error : goal.returns-clause-error
 returns-clause-error g c =
-    if_exhausted VectorIndexed c.args.modrm c.read_by_sib.result (placed_sib c.args.modrm c.requires.memory c.requires.sib c.read_by_sib.ensures)
+    if_exhausted VectorIndexed c.args.modrm c.read_by_sib.result
+    (placed_sib c.args.modrm c.requires.memory c.requires.sib c.read_by_sib.ensures)
 
 pub returns-clause-cut : goal.returns-clause-cut
 returns-clause-cut g c =
-    on_cut_short VectorIndexed c.args.modrm c.read_by_sib.result (after_vector c.requires.memory c.requires.sib) (placed_sib c.args.modrm c.requires.memory c.requires.sib c.read_by_sib.ensures)
+    on_cut_short VectorIndexed c.args.modrm c.read_by_sib.result (after_vector c.requires.memory c.requires.sib)
+    (placed_sib c.args.modrm c.requires.memory c.requires.sib c.read_by_sib.ensures)
 
 pub returns-clause-slice : goal.returns-clause-slice
-returns-clause-slice g c = over_slice c.read_by_sib.result (placed_sib c.args.modrm c.requires.memory c.requires.sib c.read_by_sib.ensures)
+returns-clause-slice g c = over_slice c.read_by_sib.result
+    (placed_sib c.args.modrm c.requires.memory c.requires.sib c.read_by_sib.ensures)

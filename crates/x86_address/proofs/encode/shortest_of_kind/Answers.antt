@@ -4,18 +4,22 @@ use Rattle.x86_address.specs.Place.{place_bytes, At}
 use Rattle.x86_address.specs.Shortest.{plain, plain_base, base_register, plain_index, shortest, IsBase, IsIndex}
 use Rattle.x86_address.specs.Spells.{SpellsAddress, BaseFits, IndexFits}
 use Rattle.x86_address.proofs.Encodable.{spelled, spelled_fits, spelled_least, shortest_modrm}
-use Rattle.x86_address.proofs.encode.shortest_of_kind.Goals.{then-not-base_fits-via-then-not-base_fits, then-not-base_fits-via-else-not-base_fits+then-not-index_fits, After-address_bytes}
+use Rattle.x86_address.proofs.encode.shortest_of_kind.Goals.{then-not-base_fits-via-then-not-base_fits}
+use Rattle.x86_address.proofs.encode.shortest_of_kind.Goals.{then-not-base_fits-via-else-not-base_fits+then-not-index_fits}
+use Rattle.x86_address.proofs.encode.shortest_of_kind.Goals.{After-address_bytes}
 use Rattle.x86_address.proofs.encode.shortest_of_kind.Goals as goal
 
 -- the bytes are those of the shortest place
-bytes_are : (c : After-address_bytes) → c.address_bytes.result.items ≡ place_bytes 0 (shortest (At (plain c.args.address.now)))
+bytes_are : (c : After-address_bytes) → c.address_bytes.result.items
+    ≡ place_bytes 0 (shortest (At (plain c.args.address.now)))
 unfolding shortest
 bytes_are c =
     let disp : FitsSigned w32 c.args.address.now.disp = search rules in
     simp to_z-of_z at c.address_bytes.ensures
 
 -- and they spell the address
-spelled_by : (c : After-address_bytes) → SpellsAddress c.address_bytes.result.items (memory_kind c.args.vector) 0 c.index_is_upper.result c.base_is_upper.result c.args.address.now
+spelled_by : (c : After-address_bytes) → SpellsAddress c.address_bytes.result.items (memory_kind c.args.vector) 0
+    c.index_is_upper.result c.base_is_upper.result c.args.address.now
 spelled_by c =
     let a = c.args.address.now in
     let disp : FitsSigned w32 a.disp = search rules in
@@ -24,7 +28,8 @@ spelled_by c =
     let index : IsIndex c.args.vector (plain_index a.index) = search rules in
     let base_fits : BaseFits a.base a.index = search rules in
     let index_fits : IndexFits c.args.vector a.index = search rules in
-    rw (bytes_are c, c.index_is_upper.ensures, c.base_is_upper.ensures) (spelled c.args.vector a bank base index disp base_fits index_fits)
+    rw (bytes_are c, c.index_is_upper.ensures, c.base_is_upper.ensures)
+    (spelled c.args.vector a bank base index disp base_fits index_fits)
 
 pub returns-then-not-base_fits-clause-none : goal.returns-then-not-base_fits-clause-none
 returns-then-not-base_fits-clause-none c = (
@@ -44,7 +49,8 @@ pub returns-clause-spells : goal.returns-clause-spells
 returns-clause-spells c = spelled_by c
 
 pub returns-clause-least : goal.returns-clause-least
-returns-clause-least c = λ bytes reg x b s. rw (bytes_are c) (spelled_least bytes (memory_kind c.args.vector) reg x b c.args.address.now s)
+returns-clause-least c = λ bytes reg x b s. rw (bytes_are c)
+    (spelled_least bytes (memory_kind c.args.vector) reg x b c.args.address.now s)
 
 pub returns-clause-none : goal.returns-clause-none
 returns-clause-none c = (λ none. cc, λ none. absurd (none _ 0 _ _ (spelled_by c)))

@@ -17,7 +17,9 @@ returns-then-eq-clause-only c = λ opcode e.
 pub returns-else-eq-clause-only : goal.returns-else-eq-clause-only
 returns-else-eq-clause-only c = λ opcode e.
     let led : c.slot.result ≡ slot c.args.name.now = c.slot.ensures.value ∙ ap slot c.as_bytes.ensures.value in
-    let same : c.opcode_at-opcode.result ≡ opcode = c.opcode_at-opcode.ensures ∙ (ap opcode_at led ∙ name_found opcode c.args.name.now e) in
+    let same : c.opcode_at-opcode.result ≡ opcode =
+    c.opcode_at-opcode.ensures ∙ (ap opcode_at led ∙ name_found opcode c.args.name.now e) in
     let text : c.as_bytes-2.result.now ≡ c.as_bytes-3.result.now =
-    c.as_bytes-2.ensures.value ∙ (c.name.ensures.value ∙ (ap opcode_name same ∙ (e ∙ sym c.as_bytes-3.ensures.value))) in
+    c.as_bytes-2.ensures.value ∙ (c.name.ensures.value ∙ (ap opcode_name same ∙ (e ∙ sym c.as_bytes-3.ensures.value)))
+    in
     absurd (differ c.as_bytes-2.result.now c.as_bytes-3.result.now text c.if-eq.ensures)

@@ -1,5 +1,6 @@
 -- One test over all constants.
-use Rattle.std.proofs.Common.{◌≡◌, ℕ, zero, suc, ◌<◌, Bool, true, ◌&&◌, List, [], ◌∷◌, length, slice_index_or, bytes_eq, refl, arith}
+use Rattle.std.proofs.Common.{◌≡◌, ℕ, zero, suc, ◌<◌, Bool, true, ◌&&◌, List, [], ◌∷◌, length, slice_index_or, bytes_eq}
+use Rattle.std.proofs.Common.{refl, arith}
 use Rattle.std.proofs.lemmas.Bool.{and_parts}
 use Rattle.std.proofs.lemmas.Slice.Eq.{bytes_eq-Decides}
 use Rattle.x86_opcode.specs.declared.Opcode.{Opcode}
@@ -12,7 +13,8 @@ abbrev each_named : List (Opcode × List ℕ) → Bool
 each_named [] = true
 each_named (c ∷ cs) = bytes_eq (opcode_name c.0) c.1 && each_named cs
 
-each_named-at : (cs : List (Opcode × List ℕ)) → each_named cs ≡ true → (k : ℕ) (d : Opcode × List ℕ) → k < length cs → opcode_name ((slice_index_or cs k d).0) ≡ (slice_index_or cs k d).1
+each_named-at : (cs : List (Opcode × List ℕ)) → each_named cs ≡ true → (k : ℕ) (d : Opcode × List ℕ) → k < length cs
+    → opcode_name ((slice_index_or cs k d).0) ≡ (slice_index_or cs k d).1
 each_named-at [] h k d below = absurd (omega arith)
 each_named-at (c ∷ cs) h zero d below = (bytes_eq-Decides (opcode_name c.0) c.1).0 (and_parts _ _ h).0
 each_named-at (c ∷ cs) h (suc k) d below = each_named-at cs (and_parts _ _ h).1 k d (omega arith)

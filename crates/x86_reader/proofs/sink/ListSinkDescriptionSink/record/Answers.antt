@@ -11,4 +11,5 @@ returns-then-is_full-clause-first g c = λ given first.
 pub returns-else-is_full-clause-first : goal.returns-else-is_full-clause-first
 returns-else-is_full-clause-first g c = λ given first.
     let kept = ap (λ s. s.kept) c.self.view_is in
-    HoldsFirst-kept given _ c.args.self.now _ first (grind (arith, common_steps)) (rw (← kept) c.push.ensures.items) (ap (λ s. s.whole) c.self.view_is)
+    HoldsFirst-kept given _ c.args.self.now _ first (grind (arith, common_steps)) (rw (← kept) c.push.ensures.items)
+    (ap (λ s. s.whole) c.self.view_is)
