@@ -20,11 +20,10 @@ use Rattle.vex_rows.specs.Steps.{FormSteps, steps}
 use Rattle.vex_rows.specs.Row.{Among, kinds_of, is_register}
 use Rattle.vex_rows.specs.Tests.{is_prefix_check, is_modrm_check, is_late_check, is_register_check, is_none}
 use Rattle.vex_rows.specs.Row.Lists.{both-parts}
-use Rattle.vex_rows.specs.Steps.Laws.{orderly}
 use Rattle.vex_forms.specs.Fields.{Fields}
 use Rattle.vex_decode.specs.Spelling.{FitsReg, FitsImm, imm_bytes}
 use Rattle.vex_forms.specs.FormWalk.{passes, check_all, kind_of_modrm, kind_by, take_imm, Operands, place_by, walk_modrm, walk_alone, walk_form}
-use Rattle.vex_forms.specs.FormWalk.Laws.{walk_form-passed, walk_form-written}
+use Rattle.vex_forms.specs.FormWalk.Laws.{bytes_after, ordered, register_checked, walk_form-passed, walk_form-written}
 use Rattle.vex_forms.specs.Layout.Laws.{is_vector-memory_kind, plain-memory_kind, kinds}
 
 -- the checks pass where all of them hold
@@ -40,9 +39,9 @@ take_imm-again false imm rest fits = ap (λ n. Ok (n, rest)) (sym fits)
 
 -- what the steps of a form read
 pub record ReadsForm (entry : Entry) (f : Fields) (bytes : List ℕ) (read : Operands) (rest : List ℕ) : Type 0 where
-  pub first : list_all (passes entry f WithoutModRM 0) (steps entry.form).before_modrm ≡ true
-  pub second : list_all (passes entry f read.kind read.reg) (steps entry.form).after_modrm ≡ true
-  pub third : list_all (passes entry f read.kind read.reg) (steps entry.form).after_address ≡ true
+  pub before_modrm : list_all (passes entry f WithoutModRM 0) (steps entry.form).before_modrm ≡ true
+  pub after_modrm : list_all (passes entry f read.kind read.reg) (steps entry.form).after_modrm ≡ true
+  pub after_address : list_all (passes entry f read.kind read.reg) (steps entry.form).after_address ≡ true
   pub kind : Among read.kind (kinds_of entry.form)
   pub of_kind : IsOfKind read.kind read.place
   pub reg : FitsReg (steps entry.form).modrm read.reg
@@ -51,19 +50,15 @@ pub record ReadsForm (entry : Entry) (f : Fields) (bytes : List ℕ) (read : Ope
   pub written : bytes ≡ place_bytes read.reg read.place ++ (imm_bytes (steps entry.form).imm read.imm ++ rest)
   pub left : IsBytes rest
 
-bytes_after : (xs ys : List ℕ) → IsBytes (xs ++ ys) → IsBytes ys
-bytes_after [] ys is = is
-bytes_after (x ∷ xs) ys is = bytes_after xs ys is.1
-
 -- what the steps of a form read, was so written
 pub form-written : (entry : Entry) (f : Fields) (bytes : List ℕ) → IsBytes bytes → Answers (ReadsForm entry f bytes) (walk_form entry f bytes)
 form-written entry f bytes is = λ read rest e.
     let passed = walk_form-passed entry f bytes (read, rest) e in
     let so = walk_form-written reading_is_spelling entry f bytes (read, rest) is e in
     record {
-      first = passed.before_modrm;
-      second = passed.after_modrm;
-      third = passed.after_address;
+      before_modrm = passed.before_modrm;
+      after_modrm = passed.after_modrm;
+      after_address = passed.after_address;
       kind = passed.kind;
       of_kind = passed.place;
       reg = so.reg;
@@ -78,14 +73,9 @@ with_modrm : (modrm p q : Bool) → (if modrm then p else q) ≡ true → modrm 
 with_modrm true p q h e = h
 with_modrm false p q h e = cc
 
--- what the form of an entry does after its first checks
-after_first : (entry : Entry) →
-    (if (steps entry.form).modrm then (steps entry.form).address || list_any is_register_check (steps entry.form).after_modrm
-    else is_none (steps entry.form).after_modrm && is_none (steps entry.form).after_address && not (steps entry.form).address) ≡ true
-after_first entry = (both-parts (list_all is_prefix_check (steps entry.form).before_modrm && list_all is_modrm_check (steps entry.form).after_modrm && list_all is_late_check (steps entry.form).after_address) _ (orderly entry.form)).1
-
+-- a form with ModRM reads an address, or checks that the operand is a register
 pub addressed_form : (entry : Entry) → (steps entry.form).modrm ≡ true → ((steps entry.form).address || list_any is_register_check (steps entry.form).after_modrm) ≡ true
-addressed_form entry h = with_modrm (steps entry.form).modrm ((steps entry.form).address || list_any is_register_check (steps entry.form).after_modrm) (is_none (steps entry.form).after_modrm && is_none (steps entry.form).after_address && not (steps entry.form).address) (after_first entry) h
+addressed_form entry h = with_modrm (steps entry.form).modrm ((steps entry.form).address || list_any is_register_check (steps entry.form).after_modrm) (is_none (steps entry.form).after_modrm && is_none (steps entry.form).after_address && not (steps entry.form).address) (ordered entry).rest h
 
 -- one step answers, and then the next
 pub step_then : {A B : Type 0} (step : Reading A) (next : A × List ℕ → Reading B) (read : A × List ℕ) (answer : Reading B) → step ≡ Ok read → next read ≡ answer → (step >>= next) ≡ answer
@@ -139,16 +129,6 @@ plain_register InRegister h = refl
 plain_register InMemory h = cc
 plain_register VectorIndexed h = cc
 
--- a register check that passes leaves registers alone
-only_register : (entry : Entry) (f : Fields) (kind : Kind) (reg : ℕ) (cs : List Check) → list_any is_register_check cs ≡ true → list_all (passes entry f kind reg) cs ≡ true → is_register kind ≡ true
-only_register entry f kind reg [] any all = cc
-only_register entry f kind reg (Reg ∷ cs) any all = (both-parts (is_register kind) _ all).0
-only_register entry f kind reg (V0 ∷ cs) any all = only_register entry f kind reg cs any (both-parts (passes entry f kind reg V0) _ all).1
-only_register entry f kind reg (L0 ∷ cs) any all = only_register entry f kind reg cs any (both-parts (passes entry f kind reg L0) _ all).1
-only_register entry f kind reg (Mem ∷ cs) any all = only_register entry f kind reg cs any (both-parts (passes entry f kind reg Mem) _ all).1
-only_register entry f kind reg (Group ∷ cs) any all = only_register entry f kind reg cs any (both-parts (passes entry f kind reg Group) _ all).1
-only_register entry f kind reg (VifMem ∷ cs) any all = only_register entry f kind reg cs any (both-parts (passes entry f kind reg VifMem) _ all).1
-
 -- the place of a form that was written is read again
 place_by-again : (address : Bool) (p : Place) (rest : List ℕ) → IsPlace p → (kind_of p ≡ InRegister) ⊎ (kind_of p ≡ InMemory) → (address ≡ false → is_register (kind_of p) ≡ true) → place_by address (mod_of p) (rm_of p) (tail_of p ++ rest) ≡ Ok (p, rest)
 place_by-again true p rest is kind direct = take_place-again p rest is kind
@@ -161,9 +141,9 @@ place_by-again false (Baseless k i n) rest is kind direct = cc (direct refl)
 
 -- what the steps of a form ask of what is written
 pub record WritesForm (entry : Entry) (f : Fields) (read : Operands) : Type 0 where
-  pub first : list_all (passes entry f WithoutModRM 0) (steps entry.form).before_modrm ≡ true
-  pub second : list_all (passes entry f read.kind read.reg) (steps entry.form).after_modrm ≡ true
-  pub third : list_all (passes entry f read.kind read.reg) (steps entry.form).after_address ≡ true
+  pub before_modrm : list_all (passes entry f WithoutModRM 0) (steps entry.form).before_modrm ≡ true
+  pub after_modrm : list_all (passes entry f read.kind read.reg) (steps entry.form).after_modrm ≡ true
+  pub after_address : list_all (passes entry f read.kind read.reg) (steps entry.form).after_address ≡ true
   pub kind : Among read.kind (kinds_of entry.form)
   pub of_kind : IsOfKind read.kind read.place
   pub reg : FitsReg (steps entry.form).modrm read.reg
@@ -189,7 +169,7 @@ walk_modrm-again entry f form read rest second third direct kind of_kind reg pla
     let kind_is : kind_by entry n ≡ read.kind = ap₂ (kind_of_modrm vector) high_is rm_is ∙ kind_by_place vector read.kind p kind of_kind in
     let second' : list_all (passes entry f (kind_by entry n) ((n / 8) % 8)) form.after_modrm ≡ true = subst₂ (λ k r. list_all (passes entry f k r) form.after_modrm ≡ true) (sym kind_is) (sym reg_is) second in
     let third' : list_all (passes entry f (kind_by entry n) ((n / 8) % 8)) form.after_address ≡ true = subst₂ (λ k r. list_all (passes entry f k r) form.after_address ≡ true) (sym kind_is) (sym reg_is) third in
-    let registers : form.address ≡ false → is_register (kind_of p) ≡ true = λ none. ap is_register of_kind.plain ∙ plain_register read.kind (only_register entry f read.kind read.reg form.after_modrm (subst (λ a. (a || list_any is_register_check form.after_modrm) ≡ true) none direct) second) in
+    let registers : form.address ≡ false → is_register (kind_of p) ≡ true = λ none. ap is_register of_kind.plain ∙ plain_register read.kind (register_checked entry f read.kind read.reg form.after_modrm (subst (λ a. (a || list_any is_register_check form.after_modrm) ≡ true) none direct) second) in
     let placed : place_by form.address (n / 64) (n % 8) (tail_of p ++ more) ≡ Ok (p, more) = subst₂ (λ m r. place_by form.address m r (tail_of p ++ more) ≡ Ok (p, more)) (sym high_is) (sym rm_is) (place_by-again form.address p more place plain registers) in
     ap (λ bytes. walk_modrm entry f form (bytes ++ more)) (place_bytes_split read.reg p plain)
     ∙ step_then (check_all entry f (kind_by entry n) ((n / 8) % 8) form.after_modrm (tail_of p ++ more)) _ (tt, tail_of p ++ more) _ (check_all-again entry f (kind_by entry n) ((n / 8) % 8) form.after_modrm (tail_of p ++ more) second')
@@ -245,11 +225,11 @@ unfolding walk_form
 walk_form-again entry f read rest is = by (steps entry.form).modrm refl where
   by : (b : Bool) → (steps entry.form).modrm ≡ b → walk_form entry f (place_bytes read.reg read.place ++ (imm_bytes (steps entry.form).imm read.imm ++ rest)) ≡ Ok (read, rest)
   by true h =
-      step_then (check_all entry f WithoutModRM 0 (steps entry.form).before_modrm _) _ (tt, _) _ (check_all-again entry f WithoutModRM 0 (steps entry.form).before_modrm (place_bytes read.reg read.place ++ (imm_bytes (steps entry.form).imm read.imm ++ rest)) is.first)
+      step_then (check_all entry f WithoutModRM 0 (steps entry.form).before_modrm _) _ (tt, _) _ (check_all-again entry f WithoutModRM 0 (steps entry.form).before_modrm (place_bytes read.reg read.place ++ (imm_bytes (steps entry.form).imm read.imm ++ rest)) is.before_modrm)
       (chosen_true (steps entry.form).modrm _ _ h
-      ∙ walk_modrm-again entry f (steps entry.form) read rest is.second is.third (addressed_form entry h) (kinds_with_modrm (gathers entry.form) (steps entry.form).modrm read.kind h is.kind) is.of_kind (reg_with_modrm _ _ h is.reg) is.place is.imm)
+      ∙ walk_modrm-again entry f (steps entry.form) read rest is.after_modrm is.after_address (addressed_form entry h) (kinds_with_modrm (gathers entry.form) (steps entry.form).modrm read.kind h is.kind) is.of_kind (reg_with_modrm _ _ h is.reg) is.place is.imm)
   by false h =
       let without : read.kind ≡ WithoutModRM = kinds_alone (gathers entry.form) (steps entry.form).modrm read.kind h is.kind in
-      step_then (check_all entry f WithoutModRM 0 (steps entry.form).before_modrm _) _ (tt, _) _ (check_all-again entry f WithoutModRM 0 (steps entry.form).before_modrm (place_bytes read.reg read.place ++ (imm_bytes (steps entry.form).imm read.imm ++ rest)) is.first)
+      step_then (check_all entry f WithoutModRM 0 (steps entry.form).before_modrm _) _ (tt, _) _ (check_all-again entry f WithoutModRM 0 (steps entry.form).before_modrm (place_bytes read.reg read.place ++ (imm_bytes (steps entry.form).imm read.imm ++ rest)) is.before_modrm)
       (chosen_false (steps entry.form).modrm _ _ h
       ∙ walk_alone-again (steps entry.form) read rest without (reg_alone _ _ h is.reg) (no_place read.place (is.of_kind.plain ∙ ap plain_kind without)) is.imm)

@@ -25,7 +25,6 @@ use Rattle.vex_rows.specs.Row.{Row, Among, IsRow, is_memory, is_group, is_group_
 use Rattle.vex_rows.specs.Tests.{is_prefix_check, is_modrm_check, is_late_check}
 use Rattle.vex_rows.specs.Row.Lists.{both-parts, from-list_all, list_all-each, found-find, find-only, among-append_left, among-append_right, among-append, from-map}
 use Rattle.vex_rows.specs.Row.Laws.{Chosen, chosen-row, row-chosen, checks_of}
-use Rattle.vex_rows.specs.Steps.Laws.{orderly}
 use Rattle.vex_rows.specs.Table.Laws.{one_entry, from-has_key, to-has_key}
 use Rattle.vex_forms.specs.declared.slot.VvvvRule.{VvvvRule}
 use Rattle.vex_forms.specs.declared.slot.VvvvRule.TheVariants.{Named, Zero, Free}
@@ -37,22 +36,10 @@ use Rattle.vex_decode.specs.NotedWalk.{HasEntry}
 use Rattle.vex_decode.specs.Fields.{PrefixForm, prefix_bytes, IsPrefix}
 use Rattle.vex_decode.specs.Spelling.{Syntax, imm_bytes, bytes_of, FitsRule, FitsGroup, IsSyntax}
 use Rattle.vex_forms.specs.FormWalk.{passes, Operands, walk_form, row_of}
+use Rattle.vex_forms.specs.FormWalk.Laws.{Passed, ordered, checks_permit}
 use Rattle.vex_decode.specs.Walk.{read_prefix, key_of, entry_of, found, syntax_of, walk}
 use Rattle.vex_decode.proofs.Prefix.{is_one-bit, ReadsPrefix, read_prefix-again, read_prefix-written}
 use Rattle.vex_decode.proofs.Form.{ReadsForm, WritesForm, step_then, walk_form-again, form-written}
-
--- the checks of an orderly form
-pub record Orderly (entry : Entry) : Type 0 where
-  pub first : list_all is_prefix_check (steps entry.form).before_modrm ≡ true
-  pub second : list_all is_modrm_check (steps entry.form).after_modrm ≡ true
-  pub third : list_all is_late_check (steps entry.form).after_address ≡ true
-
-pub orderly_checks : (entry : Entry) → Orderly entry
-orderly_checks entry =
-    let all = both-parts (list_all is_prefix_check (steps entry.form).before_modrm && list_all is_modrm_check (steps entry.form).after_modrm && list_all is_late_check (steps entry.form).after_address) _ (orderly entry.form) in
-    let two = both-parts (list_all is_prefix_check (steps entry.form).before_modrm && list_all is_modrm_check (steps entry.form).after_modrm) (list_all is_late_check (steps entry.form).after_address) all.0 in
-    let one = both-parts (list_all is_prefix_check (steps entry.form).before_modrm) (list_all is_modrm_check (steps entry.form).after_modrm) two.0 in
-    record { first = one.0; second = one.1; third = two.1 }
 
 -- an element that passes a test makes some element pass it
 any-among : {A : Type 0} (p : A → Bool) (x : A) (xs : List A) → Among x xs → p x ≡ true → list_any p xs ≡ true
@@ -78,29 +65,29 @@ zero_of_rule Free v fits e = cc
 
 module _ (row : Row) (s : Syntax) (chosen : Chosen row) (is : IsSyntax row s) where
   -- vvvv is 0 where a step demands it
-  v_first : (c : Check) → Among c (steps row.entry.form).before_modrm → demands_v row.kind c ≡ true → (s.fields.v == 0) ≡ true
-  v_first c m h = eq-eqb _ _ (zero_of_rule (v_rule row) s.fields.v is.v (v_rule-demanded row (or_left _ _ (any-among (demands_v row.kind) c (steps row.entry.form).before_modrm m h))))
+  v_before_modrm : (c : Check) → Among c (steps row.entry.form).before_modrm → demands_v row.kind c ≡ true → (s.fields.v == 0) ≡ true
+  v_before_modrm c m h = eq-eqb _ _ (zero_of_rule (v_rule row) s.fields.v is.v (v_rule-demanded row (or_left _ _ (any-among (demands_v row.kind) c (steps row.entry.form).before_modrm m h))))
 
-  v_third : (c : Check) → Among c (steps row.entry.form).after_address → demands_v row.kind c ≡ true → (s.fields.v == 0) ≡ true
-  v_third c m h = eq-eqb _ _ (zero_of_rule (v_rule row) s.fields.v is.v (v_rule-demanded row (or_right _ _ (any-among (demands_v row.kind) c (steps row.entry.form).after_address m h))))
+  v_after_address : (c : Check) → Among c (steps row.entry.form).after_address → demands_v row.kind c ≡ true → (s.fields.v == 0) ≡ true
+  v_after_address c m h = eq-eqb _ _ (zero_of_rule (v_rule row) s.fields.v is.v (v_rule-demanded row (or_right _ _ (any-among (demands_v row.kind) c (steps row.entry.form).after_address m h))))
 
   -- each check of the row's choice holds
-  chosen_first : (c : Check) → Among c (steps row.entry.form).before_modrm → permits_choice row c ≡ true
-  chosen_first c m = from-list_all (permits_choice row) c (checks_of row.entry) chosen.checks (among-append_left c _ _ (among-append_left c _ _ m))
+  chosen_before_modrm : (c : Check) → Among c (steps row.entry.form).before_modrm → permits_choice row c ≡ true
+  chosen_before_modrm c m = from-list_all (permits_choice row) c (checks_of row.entry) chosen.checks (among-append_left c _ _ (among-append_left c _ _ m))
 
-  chosen_second : (c : Check) → Among c (steps row.entry.form).after_modrm → permits_choice row c ≡ true
-  chosen_second c m = from-list_all (permits_choice row) c (checks_of row.entry) chosen.checks (among-append_left c _ _ (among-append_right c (steps row.entry.form).before_modrm _ m))
+  chosen_after_modrm : (c : Check) → Among c (steps row.entry.form).after_modrm → permits_choice row c ≡ true
+  chosen_after_modrm c m = from-list_all (permits_choice row) c (checks_of row.entry) chosen.checks (among-append_left c _ _ (among-append_right c (steps row.entry.form).before_modrm _ m))
 
-  chosen_third : (c : Check) → Among c (steps row.entry.form).after_address → permits_choice row c ≡ true
-  chosen_third c m = from-list_all (permits_choice row) c (checks_of row.entry) chosen.checks (among-append_right c ((steps row.entry.form).before_modrm ++ (steps row.entry.form).after_modrm) _ m)
+  chosen_after_address : (c : Check) → Among c (steps row.entry.form).after_address → permits_choice row c ≡ true
+  chosen_after_address c m = from-list_all (permits_choice row) c (checks_of row.entry) chosen.checks (among-append_right c ((steps row.entry.form).before_modrm ++ (steps row.entry.form).after_modrm) _ m)
 
-  passes_first : (c : Check) → Among c (steps row.entry.form).before_modrm → passes row.entry s.fields WithoutModRM 0 c ≡ true
-  passes_first V0 m = v_first V0 m refl
-  passes_first L0 m = subst (λ l. (l == 0) ≡ true) (sym is.l) (chosen_first L0 m)
-  passes_first Reg m = cc (from-list_all is_prefix_check Reg _ (orderly_checks row.entry).first m)
-  passes_first Mem m = cc (from-list_all is_prefix_check Mem _ (orderly_checks row.entry).first m)
-  passes_first Group m = cc (from-list_all is_prefix_check Group _ (orderly_checks row.entry).first m)
-  passes_first VifMem m = cc (from-list_all is_prefix_check VifMem _ (orderly_checks row.entry).first m)
+  passes_before_modrm : (c : Check) → Among c (steps row.entry.form).before_modrm → passes row.entry s.fields WithoutModRM 0 c ≡ true
+  passes_before_modrm V0 m = v_before_modrm V0 m refl
+  passes_before_modrm L0 m = subst (λ l. (l == 0) ≡ true) (sym is.l) (chosen_before_modrm L0 m)
+  passes_before_modrm Reg m = cc (from-list_all is_prefix_check Reg _ (ordered row.entry).before_modrm m)
+  passes_before_modrm Mem m = cc (from-list_all is_prefix_check Mem _ (ordered row.entry).before_modrm m)
+  passes_before_modrm Group m = cc (from-list_all is_prefix_check Group _ (ordered row.entry).before_modrm m)
+  passes_before_modrm VifMem m = cc (from-list_all is_prefix_check VifMem _ (ordered row.entry).before_modrm m)
 
 -- where a form has groups, a row has one, which is the reg field
 group_by : (form : _) (l reg : ℕ) (group : Option ℕ) → has_groups form ≡ true → Among group (group_choices form l) → group_allowed form l group ≡ true → FitsGroup group reg → is_group (groups form l) reg ≡ true
@@ -119,32 +106,32 @@ if_memory true t h = h refl
 if_memory false t h = refl
 
 module _ (row : Row) (s : Syntax) (chosen : Chosen row) (is : IsSyntax row s) where
-  passes_second : (c : Check) → Among c (steps row.entry.form).after_modrm → passes row.entry s.fields row.kind s.reg c ≡ true
-  passes_second V0 m = cc (from-list_all is_modrm_check V0 _ (orderly_checks row.entry).second m)
-  passes_second L0 m = cc (from-list_all is_modrm_check L0 _ (orderly_checks row.entry).second m)
-  passes_second Reg m = chosen_second row s chosen is Reg m
-  passes_second Mem m = chosen_second row s chosen is Mem m
-  passes_second Group m =
+  passes_after_modrm : (c : Check) → Among c (steps row.entry.form).after_modrm → passes row.entry s.fields row.kind s.reg c ≡ true
+  passes_after_modrm V0 m = cc (from-list_all is_modrm_check V0 _ (ordered row.entry).after_modrm m)
+  passes_after_modrm L0 m = cc (from-list_all is_modrm_check L0 _ (ordered row.entry).after_modrm m)
+  passes_after_modrm Reg m = chosen_after_modrm row s chosen is Reg m
+  passes_after_modrm Mem m = chosen_after_modrm row s chosen is Mem m
+  passes_after_modrm Group m =
       let has : has_groups row.entry.form ≡ true = has_groups-checked row m in
       subst (λ l. is_group (groups row.entry.form l) s.reg ≡ true) (sym is.l)
-      (group_by row.entry.form row.l s.reg row.group has chosen.group (chosen_second row s chosen is Group m) is.group)
-  passes_second VifMem m = cc (from-list_all is_modrm_check VifMem _ (orderly_checks row.entry).second m)
+      (group_by row.entry.form row.l s.reg row.group has chosen.group (chosen_after_modrm row s chosen is Group m) is.group)
+  passes_after_modrm VifMem m = cc (from-list_all is_modrm_check VifMem _ (ordered row.entry).after_modrm m)
 
-  passes_third : (c : Check) → Among c (steps row.entry.form).after_address → passes row.entry s.fields row.kind s.reg c ≡ true
-  passes_third V0 m = cc (from-list_all is_late_check V0 _ (orderly_checks row.entry).third m)
-  passes_third L0 m = cc (from-list_all is_late_check L0 _ (orderly_checks row.entry).third m)
-  passes_third Reg m = chosen_third row s chosen is Reg m
-  passes_third Mem m = cc (from-list_all is_late_check Mem _ (orderly_checks row.entry).third m)
-  passes_third Group m = cc (from-list_all is_late_check Group _ (orderly_checks row.entry).third m)
-  passes_third VifMem m = if_memory (is_memory row.kind) (s.fields.v == 0) (λ memory. v_third row s chosen is VifMem m memory)
+  passes_after_address : (c : Check) → Among c (steps row.entry.form).after_address → passes row.entry s.fields row.kind s.reg c ≡ true
+  passes_after_address V0 m = cc (from-list_all is_late_check V0 _ (ordered row.entry).after_address m)
+  passes_after_address L0 m = cc (from-list_all is_late_check L0 _ (ordered row.entry).after_address m)
+  passes_after_address Reg m = chosen_after_address row s chosen is Reg m
+  passes_after_address Mem m = cc (from-list_all is_late_check Mem _ (ordered row.entry).after_address m)
+  passes_after_address Group m = cc (from-list_all is_late_check Group _ (ordered row.entry).after_address m)
+  passes_after_address VifMem m = if_memory (is_memory row.kind) (s.fields.v == 0) (λ memory. v_after_address row s chosen is VifMem m memory)
 
   -- what the form of a row writes passes its steps
   writes_form : WritesForm row.entry s.fields (record { kind = row.kind; reg = s.reg; place = s.place; imm = s.imm })
   unfolding has_imm
   writes_form = record {
-    first = list_all-each _ _ (passes_first row s chosen is);
-    second = list_all-each _ _ passes_second;
-    third = list_all-each _ _ passes_third;
+    before_modrm = list_all-each _ _ (passes_before_modrm row s chosen is);
+    after_modrm = list_all-each _ _ passes_after_modrm;
+    after_address = list_all-each _ _ passes_after_address;
     kind = chosen.kind;
     of_kind = is.kind;
     reg = is.reg;
@@ -271,25 +258,21 @@ fits_group : (has : Bool) (reg : ℕ) → FitsGroup (if has then Some reg else N
 fits_group true reg = refl
 fits_group false reg = tt
 
-allowed_read : (has : Bool) (form : Form) (l reg : ℕ) → is_group (groups form l) reg ≡ true → group_allowed form l (if has then Some reg else None) ≡ true
-allowed_read true form l reg h = h
-allowed_read false form l reg h = refl
-
 -- a check that demands that vvvv is 0, and passes
-v_passed_first : (entry : Entry) (f : Fields) (kind : Kind) (cs : List Check) → list_all is_prefix_check cs ≡ true → list_any (demands_v kind) cs ≡ true → list_all (passes entry f WithoutModRM 0) cs ≡ true → f.v ≡ 0
-v_passed_first entry f kind [] ok any all = cc
-v_passed_first entry f kind (V0 ∷ cs) ok any all = eqb-true _ _ (both-parts (f.v == 0) _ all).0
-v_passed_first entry f kind (L0 ∷ cs) ok any all = v_passed_first entry f kind cs (both-parts (is_prefix_check L0) _ ok).1 any (both-parts (passes entry f WithoutModRM 0 L0) _ all).1
-v_passed_first entry f kind (_ ∷ cs) ok any all = cc
+v_passed_before_modrm : (entry : Entry) (f : Fields) (kind : Kind) (cs : List Check) → list_all is_prefix_check cs ≡ true → list_any (demands_v kind) cs ≡ true → list_all (passes entry f WithoutModRM 0) cs ≡ true → f.v ≡ 0
+v_passed_before_modrm entry f kind [] ok any all = cc
+v_passed_before_modrm entry f kind (V0 ∷ cs) ok any all = eqb-true _ _ (both-parts (f.v == 0) _ all).0
+v_passed_before_modrm entry f kind (L0 ∷ cs) ok any all = v_passed_before_modrm entry f kind cs (both-parts (is_prefix_check L0) _ ok).1 any (both-parts (passes entry f WithoutModRM 0 L0) _ all).1
+v_passed_before_modrm entry f kind (_ ∷ cs) ok any all = cc
 
-v_passed_third : (entry : Entry) (f : Fields) (kind : Kind) (reg : ℕ) (cs : List Check) → list_all is_late_check cs ≡ true → list_any (demands_v kind) cs ≡ true → list_all (passes entry f kind reg) cs ≡ true → f.v ≡ 0
-v_passed_third entry f kind reg [] ok any all = cc
-v_passed_third entry f kind reg (Reg ∷ cs) ok any all = v_passed_third entry f kind reg cs (both-parts (is_late_check Reg) _ ok).1 any (both-parts (passes entry f kind reg Reg) _ all).1
-v_passed_third entry f kind reg (VifMem ∷ cs) ok any all = by (is_memory kind) any (both-parts (if is_memory kind then f.v == 0 else true) (list_all (passes entry f kind reg) cs) all) (λ later. v_passed_third entry f kind reg cs (both-parts (is_late_check VifMem) _ ok).1 later) where
+v_passed_after_address : (entry : Entry) (f : Fields) (kind : Kind) (reg : ℕ) (cs : List Check) → list_all is_late_check cs ≡ true → list_any (demands_v kind) cs ≡ true → list_all (passes entry f kind reg) cs ≡ true → f.v ≡ 0
+v_passed_after_address entry f kind reg [] ok any all = cc
+v_passed_after_address entry f kind reg (Reg ∷ cs) ok any all = v_passed_after_address entry f kind reg cs (both-parts (is_late_check Reg) _ ok).1 any (both-parts (passes entry f kind reg Reg) _ all).1
+v_passed_after_address entry f kind reg (VifMem ∷ cs) ok any all = by (is_memory kind) any (both-parts (if is_memory kind then f.v == 0 else true) (list_all (passes entry f kind reg) cs) all) (λ later. v_passed_after_address entry f kind reg cs (both-parts (is_late_check VifMem) _ ok).1 later) where
   by : (b : Bool) → (b || list_any (demands_v kind) cs) ≡ true → ((if b then f.v == 0 else true) ≡ true) × (list_all (passes entry f kind reg) cs ≡ true) → (list_any (demands_v kind) cs ≡ true → list_all (passes entry f kind reg) cs ≡ true → f.v ≡ 0) → f.v ≡ 0
   by true h k next = eqb-true _ _ k.0
   by false h k next = next h k.1
-v_passed_third entry f kind reg (_ ∷ cs) ok any all = cc
+v_passed_after_address entry f kind reg (_ ∷ cs) ok any all = cc
 
 either_true : (a b : Bool) → (a || b) ≡ true → (a ≡ true) ⊎ (b ≡ true)
 either_true true b h = inl refl
@@ -304,37 +287,16 @@ module _ (entry : Entry) (form : PrefixForm) (f : Fields) (byte : ℕ) (bytes : 
     (is_prefix : IsPrefix form f) (finds : Finds entry f byte) (reads : ReadsForm entry f bytes read rest) where
   group_checked : has_groups entry.form ≡ true → is_group (groups entry.form f.l) read.reg ≡ true
   unfolding has_groups
-  group_checked h = group_passed entry f read.kind read.reg (steps entry.form).after_modrm h reads.second
+  group_checked h = group_passed entry f read.kind read.reg (steps entry.form).after_modrm h reads.after_modrm
 
-  choice_first : (c : Check) → Among c (steps entry.form).before_modrm → permits_choice (row_of entry f read) c ≡ true
-  choice_first V0 m = refl
-  choice_first L0 m = from-list_all (passes entry f WithoutModRM 0) L0 _ reads.first m
-  choice_first Reg m = cc (from-list_all is_prefix_check Reg _ (orderly_checks entry).first m)
-  choice_first Mem m = cc (from-list_all is_prefix_check Mem _ (orderly_checks entry).first m)
-  choice_first Group m = cc (from-list_all is_prefix_check Group _ (orderly_checks entry).first m)
-  choice_first VifMem m = refl
-
-  choice_second : (c : Check) → Among c (steps entry.form).after_modrm → permits_choice (row_of entry f read) c ≡ true
-  choice_second V0 m = refl
-  choice_second L0 m = cc (from-list_all is_modrm_check L0 _ (orderly_checks entry).second m)
-  choice_second Reg m = from-list_all (passes entry f read.kind read.reg) Reg _ reads.second m
-  choice_second Mem m = from-list_all (passes entry f read.kind read.reg) Mem _ reads.second m
-  choice_second Group m = allowed_read (has_groups entry.form) entry.form f.l read.reg (from-list_all (passes entry f read.kind read.reg) Group _ reads.second m)
-  choice_second VifMem m = refl
-
-  choice_third : (c : Check) → Among c (steps entry.form).after_address → permits_choice (row_of entry f read) c ≡ true
-  choice_third V0 m = refl
-  choice_third L0 m = cc (from-list_all is_late_check L0 _ (orderly_checks entry).third m)
-  choice_third Reg m = from-list_all (passes entry f read.kind read.reg) Reg _ reads.third m
-  choice_third Mem m = cc (from-list_all is_late_check Mem _ (orderly_checks entry).third m)
-  choice_third Group m = cc (from-list_all is_late_check Group _ (orderly_checks entry).third m)
-  choice_third VifMem m = refl
-
-  choice : (c : Check) → Among c (checks_of entry) → permits_choice (row_of entry f read) c ≡ true
-  choice c m = elim (among-append c ((steps entry.form).before_modrm ++ (steps entry.form).after_modrm) (steps entry.form).after_address m) [
-    | inl k ↦ elim (among-append c (steps entry.form).before_modrm (steps entry.form).after_modrm k) [ inl n ↦ choice_first c n | inr n ↦ choice_second c n ]
-    | inr k ↦ choice_third c k
-  ]
+  passed : Passed entry f read
+  passed = record {
+    before_modrm = reads.before_modrm;
+    after_modrm = reads.after_modrm;
+    after_address = reads.after_address;
+    kind = reads.kind;
+    place = reads.of_kind;
+  }
 
   chosen_read : Chosen (row_of entry f read)
   chosen_read = record {
@@ -344,13 +306,13 @@ module _ (entry : Entry) (form : PrefixForm) (f : Fields) (byte : ℕ) (bytes : 
     one_bit = is_prefix.l;
     kind = reads.kind;
     group = group_read (has_groups entry.form) (groups entry.form f.l) read.reg group_checked;
-    checks = list_all-each _ _ choice;
+    checks = checks_permit entry f read passed;
   }
 
   v_demanded : demanded (row_of entry f read) ≡ true → f.v ≡ 0
   v_demanded h = elim (either_true (list_any (demands_v read.kind) (steps entry.form).before_modrm) (list_any (demands_v read.kind) (steps entry.form).after_address) h) [
-    | inl k ↦ v_passed_first entry f read.kind (steps entry.form).before_modrm (orderly_checks entry).first k reads.first
-    | inr k ↦ v_passed_third entry f read.kind read.reg (steps entry.form).after_address (orderly_checks entry).third k reads.third
+    | inl k ↦ v_passed_before_modrm entry f read.kind (steps entry.form).before_modrm (ordered entry).before_modrm k reads.before_modrm
+    | inr k ↦ v_passed_after_address entry f read.kind read.reg (steps entry.form).after_address (ordered entry).after_address k reads.after_address
   ]
 
   syntax_read : IsSyntax (row_of entry f read) (syntax_of form f read)

@@ -33,7 +33,7 @@ pub use laws::{
     notes_change_nothing, one_meaning, prefix_free, reading_is_spelling, spelling_is_read,
     vex_opcodes,
 };
-pub use prefix_fields::shortest_prefix;
+pub use prefix_fields::{shortest_prefix, three_byte_prefix, two_byte_prefix};
 pub use vex_prefix::{three_byte_vex, two_byte_vex};
 
 #[cfg(test)]

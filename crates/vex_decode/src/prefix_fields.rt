@@ -1,9 +1,8 @@
 //! The fields of a VEX prefix in its bytes, both ways (Intel SDM volume 2, sections 2.3.5 and 2.3.6).
 
 ghost use Rattle.std.specs.Prelude.{◌≡◌, ◌<◌, ◌≤◌, ◌/◌, ◌%◌, ◌^◌, ◌-◌, ◌==◌, length};
-ghost use Rattle.vex_rows.specs.Rules.{map_number, pp_number};
 ghost use Rattle.vex_forms.specs.Fields.{fields_of};
-ghost use Rattle.vex_decode.specs.Fields.{low_byte, prefix_bytes, fits_two_bytes, shortest_form};
+ghost use Rattle.vex_decode.specs.Fields.{C4, C5, low_byte, prefix_bytes, fits_two_bytes, shortest_form};
 ghost use Rattle.vex_decode.specs.Walk.{pp_of, map_of, fields_of_two, fields_of_three};
 ghost use Rattle.vex_decode.specs.Notes.{bit_set};
 
@@ -28,19 +27,6 @@ fn implied_prefix(byte: u8) -> Pp
     }
 }
 
-/// The number of an implied prefix in the field pp.
-fn pp_number(pp: Pp) -> u8
-    ensures value { result ≡ pp_number pp }
-    ensures within { result < 4 }
-{
-    match pp {
-        Pp::Plain => 0,
-        Pp::Prefix66 => 1,
-        Pp::PrefixF3 => 2,
-        Pp::PrefixF2 => 3,
-    }
-}
-
 /// The opcode map of the low five bits (section 2.3.6.1), `None` where their number isn't 1, 2 or 3.
 pub fn opcode_map(byte: u8) -> Option<Map>
     ensures { result ≡ map_of (byte % 32) }
@@ -50,17 +36,6 @@ pub fn opcode_map(byte: u8) -> Option<Map>
         2 => Some(Map::Map0F38),
         3 => Some(Map::Map0F3A),
         _ => None,
-    }
-}
-
-/// The number of an opcode map in a three-byte prefix.
-fn map_number(map: Map) -> u8
-    ensures { result ≡ map_number map }
-{
-    match map {
-        Map::Map0F => 1,
-        Map::Map0F38 => 2,
-        Map::Map0F3A => 3,
     }
 }
 
@@ -120,7 +95,28 @@ fn low_byte(prefix: &Prefix) -> u8
     ensures value { result ≡ low_byte (fields_of prefix.now) }
     ensures within { result < 128 }
 {
-    8 * (15 - prefix.vvvv) + 4 * u8::from(prefix.l) + pp_number(prefix.pp)
+    8 * (15 - prefix.vvvv) + 4 * u8::from(prefix.l) + prefix.pp.number()
+}
+
+/// The bytes of a prefix that begins with C5. It says nothing of the fields map, W, X and B (section 2.3.5).
+pub fn two_byte_prefix(prefix: &Prefix) -> [u8; 2]
+    requires { prefix.now.vvvv < 16 }
+    ensures { result ≡ prefix_bytes C5 (fields_of prefix.now) }
+{
+    [TWO_BYTES, 128 * u8::from(!prefix.r) + low_byte(prefix)]
+}
+
+/// The bytes of a prefix that begins with C4 (section 2.3.5).
+pub fn three_byte_prefix(prefix: &Prefix) -> [u8; 3]
+    requires { prefix.now.vvvv < 16 }
+    ensures { result ≡ prefix_bytes C4 (fields_of prefix.now) }
+{
+    let high = 128 * u8::from(!prefix.r) + 64 * u8::from(!prefix.x) + 32 * u8::from(!prefix.b);
+    [
+        THREE_BYTES,
+        high + prefix.map.number(),
+        128 * u8::from(prefix.w) + low_byte(prefix),
+    ]
 }
 
 /// Whether a two-byte prefix can say the fields.
@@ -138,15 +134,15 @@ pub fn shortest_prefix(prefix: &Prefix) -> ArrayVec<u8, 3>
     ensures short { length result.items ≤ 3 }
 {
     let mut bytes = ArrayVec::new();
-    let low = low_byte(prefix);
     if fits_two_bytes(prefix) {
-        bytes.push(TWO_BYTES);
-        bytes.push(128 * u8::from(!prefix.r) + low);
+        let [first, second] = two_byte_prefix(prefix);
+        bytes.push(first);
+        bytes.push(second);
     } else {
-        let high = 128 * u8::from(!prefix.r) + 64 * u8::from(!prefix.x) + 32 * u8::from(!prefix.b);
-        bytes.push(THREE_BYTES);
-        bytes.push(high + map_number(prefix.map));
-        bytes.push(128 * u8::from(prefix.w) + low);
+        let [first, second, third] = three_byte_prefix(prefix);
+        bytes.push(first);
+        bytes.push(second);
+        bytes.push(third);
     }
     bytes
 }

@@ -4,17 +4,18 @@ ghost use Rattle.std.specs.Prelude.{◌≡◌, ◌<◌, ◌≤◌, ◌+◌, ◌*
 ghost use Rattle.x86_address.specs.Bytes.{displacement_bytes, doubleword_bytes};
 ghost use Rattle.x86_address.specs.Place.{mod_of_displacement, place_bytes};
 ghost use Rattle.x86_address.specs.Shortest.{doubleword_of, index_field, plain_index};
-ghost use Rattle.vex_rows.specs.Rules.{map_number, pp_number};
+ghost use Rattle.vex_forms.specs.Fields.{fields_of};
 ghost use Rattle.vex_forms.specs.Operands.{target_seen};
-ghost use Rattle.vex_decode.specs.Fields.{low_byte, prefix_bytes};
+ghost use Rattle.vex_decode.specs.Fields.{prefix_bytes};
 ghost use Rattle.vex_decode.specs.Spelling.{imm_bytes};
 ghost use Rattle.vex_list.specs.Choices.{IsAddressForm, IsChoices, displacement_with, exponent_in, numbered_with, place_with, prefix_form};
 ghost use Rattle.vex_list.specs.Sets.{address_place, seen_fields};
 
 use crate::choices::{AddressForm, Choices, PrefixForm, RowParts, Width};
 use arrayvec::ArrayVec;
+use vex_decode::{three_byte_prefix, two_byte_prefix};
 use vex_forms::OperandE;
-use vex_rows::{Map, Pp};
+use vex_rows::Prefix;
 use x86_operand::{Address, Index, RegisterBank};
 
 /// The greatest number of bytes of an instruction.
@@ -23,38 +24,21 @@ const MAX_BYTES: usize = 11;
 /// The bytes of a choice.
 pub type Bytes = ArrayVec<u8, MAX_BYTES>;
 
-/// The number of an opcode map in a three-byte prefix (Intel SDM volume 2, section 2.3.6.1).
-fn map_number(map: Map) -> u8
-    ensures value { result ≡ map_number map }
-    ensures within { result < 4 }
+/// The fields of the prefix.
+fn prefix_fields(parts: &RowParts, choices: &Choices) -> Prefix
+    ensures fields { fields_of result ≡ seen_fields parts.now choices.now }
+    ensures vvvv { result.vvvv ≡ choices.now.vvvv }
 {
-    match map {
-        Map::Map0F => 1,
-        Map::Map0F38 => 2,
-        Map::Map0F3A => 3,
+    Prefix {
+        map: parts.map,
+        pp: parts.pp,
+        w: parts.w,
+        l: parts.l,
+        r: choices.r,
+        x: choices.x,
+        b: choices.b,
+        vvvv: choices.vvvv,
     }
-}
-
-/// The number of an implied prefix in the field pp (Intel SDM volume 2, section 2.3.6.3).
-fn pp_number(pp: Pp) -> u8
-    ensures value { result ≡ pp_number pp }
-    ensures within { result < 4 }
-{
-    match pp {
-        Pp::Plain => 0,
-        Pp::Prefix66 => 1,
-        Pp::PrefixF3 => 2,
-        Pp::PrefixF2 => 3,
-    }
-}
-
-/// The last byte of a prefix, but for its top bit.
-fn low_byte(parts: &RowParts, choices: &Choices) -> u8
-    requires { choices.now.vvvv < 16 }
-    ensures value { result ≡ low_byte (seen_fields parts.now choices.now) }
-    ensures within { result < 128 }
-{
-    8 * (15 - choices.vvvv) + 4 * u8::from(parts.l) + pp_number(parts.pp)
 }
 
 /// The bytes of the prefix (Intel SDM volume 2, figure 2-9).
@@ -64,19 +48,18 @@ fn prefix(parts: &RowParts, choices: &Choices) -> Bytes
     ensures short { length result.items ≤ 3 }
 {
     let mut bytes = ArrayVec::new();
-    let low = low_byte(parts, choices);
+    let fields = prefix_fields(parts, choices);
     match choices.form {
         PrefixForm::TwoBytes => {
-            bytes.push(0xC5);
-            bytes.push(128 * u8::from(!choices.r) + low);
+            let [first, second] = two_byte_prefix(&fields);
+            bytes.push(first);
+            bytes.push(second);
         }
         PrefixForm::ThreeBytes => {
-            let high = 128 * u8::from(!choices.r)
-                + 64 * u8::from(!choices.x)
-                + 32 * u8::from(!choices.b);
-            bytes.push(0xC4);
-            bytes.push(high + map_number(parts.map));
-            bytes.push(128 * u8::from(parts.w) + low);
+            let [first, second, third] = three_byte_prefix(&fields);
+            bytes.push(first);
+            bytes.push(second);
+            bytes.push(third);
         }
     }
     bytes

@@ -1,5 +1,8 @@
 //! What a VEX prefix says, and the part of it that chooses an entry.
 
+ghost use Rattle.std.specs.Prelude.{◌≡◌, ◌<◌};
+ghost use Rattle.vex_rows.specs.Rules.{map_number, pp_number};
+
 /// An opcode map, named by its legacy escape bytes (Intel SDM volume 2, section 2.3.6.1).
 #[derive(Clone, Copy, PartialEq, Eq, Debug, Default)]
 pub enum Map {
@@ -10,6 +13,20 @@ pub enum Map {
     Map0F38,
     /// The second map of the three-byte opcodes.
     Map0F3A,
+}
+
+impl Map {
+    /// The number of the map in a three-byte prefix (Intel SDM volume 2, section 2.3.6.1).
+    pub fn number(self) -> u8
+        ensures value { result ≡ map_number self }
+        ensures within { result < 4 }
+    {
+        match self {
+            Map::Map0F => 1,
+            Map::Map0F38 => 2,
+            Map::Map0F3A => 3,
+        }
+    }
 }
 
 /// The legacy prefix that the field pp stands for (Intel SDM volume 2, section 2.3.6.3).
@@ -24,6 +41,21 @@ pub enum Pp {
     PrefixF3,
     /// The prefix F2.
     PrefixF2,
+}
+
+impl Pp {
+    /// The number of the implied prefix in the field pp (Intel SDM volume 2, section 2.3.6.3).
+    pub fn number(self) -> u8
+        ensures value { result ≡ pp_number self }
+        ensures within { result < 4 }
+    {
+        match self {
+            Pp::Plain => 0,
+            Pp::Prefix66 => 1,
+            Pp::PrefixF3 => 2,
+            Pp::PrefixF2 => 3,
+        }
+    }
 }
 
 /// What chooses an entry: opcode map, implied prefix, opcode byte, W and L (Intel SDM volume 2, sections 2.3.5.5, 2.3.6

@@ -2,19 +2,19 @@
 
 ghost use Rattle.std.specs.Prelude.{◌≡◌, ◌+◌, ◌<◌, ◌≤◌, ◌++◌, length, slice_get, IfSome, IsNone, Some, None};
 ghost use Rattle.arrayvec.specs.ArrayVec.{array_vec_len};
-ghost use Rattle.vex_rows.specs.Rules.{map_number, pp_number};
 ghost use Rattle.vex_rows.specs.Table.{table};
 ghost use Rattle.vex_forms.specs.Fields.{fields_of};
 ghost use Rattle.vex_forms.specs.Layout.{IsLayout, row_for};
-ghost use Rattle.vex_decode.specs.Fields.{C4, low_byte, prefix_bytes};
+ghost use Rattle.vex_decode.specs.Fields.{C4, prefix_bytes};
 ghost use Rattle.vex_tool.specs.Generator.{bit_of, bytes_made, generated, greatest, kind_made, l_free, l_made, operand_made, spelling_of, v_made, w_made};
 
 use arrayvec::ArrayVec;
 use std::marker::Brand;
 use std::sync::ledger::{Blank, Ledger};
 use step_counter::Steps;
+use vex_decode::three_byte_prefix;
 use vex_forms::{RowLayout, VvvvRule, layout};
-use vex_rows::{Entry, Form, Map, Pp, Prefix, Rule, entry_at, entry_count};
+use vex_rows::{Entry, Form, Prefix, Rule, entry_at, entry_count};
 
 /// How many bytes a generated spelling has, at most: three of prefix, the opcode byte, ModRM, a SIB byte, four of
 /// displacement and the immediate.
@@ -117,43 +117,6 @@ fn v_made(rule: VvvvRule, t: usize) -> u8
     }
 }
 
-// The number of an opcode map in a three-byte prefix.
-fn map_number(map: Map) -> u8
-    ensures { result ≡ map_number map }
-{
-    match map {
-        Map::Map0F => 1,
-        Map::Map0F38 => 2,
-        Map::Map0F3A => 3,
-    }
-}
-
-// The number of an implied prefix in the field pp.
-fn pp_number(pp: Pp) -> u8
-    ensures { result ≡ pp_number pp }
-{
-    match pp {
-        Pp::Plain => 0,
-        Pp::Prefix66 => 1,
-        Pp::PrefixF3 => 2,
-        Pp::PrefixF2 => 3,
-    }
-}
-
-// The bytes of a three-byte prefix (Intel SDM volume 2, figure 2-9).
-fn three_bytes(prefix: &Prefix) -> [u8; 3]
-    requires { prefix.now.vvvv < 16 }
-    ensures { result ≡ prefix_bytes C4 (fields_of prefix.now) }
-{
-    let high = 128 * u8::from(!prefix.r) + 64 * u8::from(!prefix.x) + 32 * u8::from(!prefix.b);
-    let low = 8 * (15 - prefix.vvvv) + 4 * u8::from(prefix.l) + pp_number(prefix.pp);
-    [
-        0xC4,
-        high + map_number(prefix.map),
-        128 * u8::from(prefix.w) + low,
-    ]
-}
-
 // Appends ModRM and what belongs to it in round t.
 fn push_operand(bytes: &mut Generated, memory: bool, reg: u8, t: usize)
     requires reg { reg < 8 }
@@ -187,7 +150,7 @@ fn bytes_made(entry: &Entry, w: bool, l: bool, found: &FoundRow, t: usize) -> Ge
     };
     let mut bytes = Generated::new();
     // There is room for all bytes.
-    let _ = bytes.try_extend_from_slice(&three_bytes(&prefix));
+    let _ = bytes.try_extend_from_slice(&three_byte_prefix(&prefix));
     bytes.push(entry.byte);
     if found.layout.has_modrm {
         let reg = found.layout.group.unwrap_or((t % 8) as u8);

@@ -89,7 +89,7 @@ place_has vector mode rm bytes answer = by vector (mode == 3) (rm == 4) where
   by false false false e = based_has mode rm bytes answer e
 
 -- a form that reads no address has checked that the operand is a register
-register_checked : (entry : Entry) (f : Fields) (kind : Kind) (reg : ℕ) (checks : List Check) → list_any is_register_check checks ≡ true → list_all (passes entry f kind reg) checks ≡ true → is_register kind ≡ true
+pub register_checked : (entry : Entry) (f : Fields) (kind : Kind) (reg : ℕ) (checks : List Check) → list_any is_register_check checks ≡ true → list_all (passes entry f kind reg) checks ≡ true → is_register kind ≡ true
 register_checked entry f kind reg [] any all = cc
 register_checked entry f kind reg (Reg ∷ checks) any all = (both-parts _ _ all).0
 register_checked entry f kind reg (V0 ∷ checks) any all = register_checked entry f kind reg checks any (both-parts _ _ all).1
@@ -311,7 +311,7 @@ most_form entry f =
 
 -- ---- how the bytes that a walk takes are written
 
-bytes_after : (xs ys : List ℕ) → IsBytes (xs ++ ys) → IsBytes ys
+pub bytes_after : (xs ys : List ℕ) → IsBytes (xs ++ ys) → IsBytes ys
 bytes_after [] ys is = is
 bytes_after (x ∷ xs) ys is = bytes_after xs ys is.1
 
