@@ -69,10 +69,28 @@ def all_names(parts):
 
 # ---- src/
 
+# What the root file begins with, after its first line. The example is that of src/example.rt.
+HEAD = """//!
+//! Each opcode has a name, a number, and the condition under which settings permit it.
+//!
+//! ```
+//! use x86_opcode::{Condition, Opcode};
+//!
+//! let opcode = Opcode::named("RORX").ok_or("a name")?;
+//! assert!(rt; opcode.is(Opcode::RORX));
+//! assert_eq!(rt; opcode.name(), "RORX");
+//! assert_eq!(rt; opcode.condition(), Condition::Bmi2);
+//! ```
+#![tactic(auto)]
+
+mod condition;
+#[cfg(test)]
+mod example;"""
+
 
 def enums(parts):
     text = [f"//! The names of x86 opcodes that the decoder and its settings speak of: the types, {NOTE}."]
-    text += ["#![tactic(auto)]", "", "mod condition;"]
+    text += HEAD.splitlines()
     modules = [part.low for part in parts] + ["laws", "list", "name", "number", "slots"]
     text += [f"mod {name};" for name in sorted(modules)]
     text += ["#[cfg(test)]", "mod tests;", ""]
@@ -242,7 +260,7 @@ def numbers(parts):
     body += ["", "-- whether two opcodes are one, told by their numbers"]
     body += ["unfoldable pub same_opcode : Opcode → Opcode → Bool"]
     body += ["same_opcode a b = opcode_number a == opcode_number b"]
-    text = [f"-- The numbers of opcodes, {NOTE}.", "pub mod Listed", "pub mod Laws"]
+    text = [f"-- The numbers of opcodes, {NOTE}.", "pub mod Listed", "pub mod Lemmas"]
     text += ["use Rattle.std.specs.Prelude.{ℕ, ◌+◌, Bool, ◌==◌}"]
     return text + [*imports(parts, body), *body]
 
@@ -296,7 +314,7 @@ def vex_opcodes(parts):
             body += [f"    {part.name} {part.low}.{name} ∷" for name in part.names()]
     body += ["    []", "", "-- whether an opcode is one of these"]
     body += ["unfoldable pub is_vex : Opcode → Bool", "is_vex o = list_any (same_opcode o) vex_opcodes"]
-    text = [f"-- The VEX opcodes, {NOTE}.", "pub mod Parts", "pub mod Laws"]
+    text = [f"-- The VEX opcodes, {NOTE}.", "pub mod Parts", "pub mod Lemmas"]
     text += ["use Rattle.std.specs.Prelude.{Bool, List, [], ◌∷◌}", "use Rattle.std.specs.List.{list_any}"]
     text += [*imports(parts, body), "use Rattle.x86_opcode.specs.Number.{same_opcode}"]
     return text + body

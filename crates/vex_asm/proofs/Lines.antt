@@ -7,7 +7,7 @@ use Rattle.std.proofs.lemmas.Option.{none-some, same_Some}
 use Rattle.x86_opcode.specs.declared.Opcode.{Opcode}
 use Rattle.x86_opcode.specs.Name.{opcode_name}
 use Rattle.x86_opcode.specs.Slots.{opcode_at, slot}
-use Rattle.x86_opcode.specs.Slots.Laws.{name_found}
+use Rattle.x86_opcode.specs.Slots.Lemmas.{name_found}
 use Rattle.x86_operand.specs.Meaning.{OperandMeaning, Meaning}
 use Rattle.vex_asm.specs.Text.{mark_text, line_parts}
 use Rattle.vex_asm.specs.Laws.{IsTextOf, MeaningOfLine}

@@ -11,7 +11,7 @@ use Rattle.std.specs.Fmt.{signed_decimal}
 use Rattle.std.specs.Char.{is_ascii_alphanumeric}
 use Rattle.x86_opcode.specs.declared.Opcode.{Opcode}
 use Rattle.x86_opcode.specs.Name.{opcode_name}
-use Rattle.x86_opcode.specs.Slots.Laws.{opcode_name_injective}
+use Rattle.x86_opcode.specs.Slots.Lemmas.{opcode_name_injective}
 use Rattle.x86_operand.specs.declared.address.Index.{Index}
 use Rattle.x86_operand.specs.declared.address.Address.{Address}
 use Rattle.x86_operand.specs.declared.register.RegisterBank.{RegisterBank}

@@ -11,7 +11,7 @@ use Rattle.x86_settings.specs.Sets.{all_set, is_among}
 use Rattle.x86_permit.specs.Permission.{permits}
 use Rattle.x86_permit.specs.Laws.{AllSettingsPermitAll}
 use Rattle.x86_permit.specs.LeastSettings.{least}
-use Rattle.x86_permit.specs.LeastSettings.Laws.{permits-least}
+use Rattle.x86_permit.specs.LeastSettings.Lemmas.{permits-least}
 use Rattle.x86_address.specs.Bytes.{IsBytes}
 use Rattle.vex_decode.specs.Laws.{AreWithin, ReadingIsSpelling, VexOpcodes}
 use Rattle.vex_encode.specs.declared.sweeper.SweepEnd.{SweepEnd}

@@ -17,7 +17,7 @@ use Rattle.vex_decode.specs.Spelling.{Spells, meant}
 use Rattle.vex_decode.specs.Laws.{VexOpcodes}
 use Rattle.vex_encode.specs.declared.sweeper.SweepEnd.TheVariants.{End, Stopped}
 use Rattle.vex_encode.specs.Sweep.{Swept, SweptItem, first_of_bytes, item_at, onto, swept_by, swept_from}
-use Rattle.vex_encode.specs.Sweep.Laws.{from-step}
+use Rattle.vex_encode.specs.Sweep.Lemmas.{from-step}
 use Rattle.vex_check.specs.declared.needs.RunCause.{RunCause}
 use Rattle.vex_check.specs.declared.needs.RunCause.TheVariants.{Marked}
 use Rattle.vex_check.specs.declared.needs.RunFault.{RunFault}

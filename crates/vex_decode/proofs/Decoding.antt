@@ -13,7 +13,7 @@ use Rattle.x86_reader.specs.Reader.{ReaderState, IsByte, Passes}
 use Rattle.x86_reader.specs.Sink.{SinkState, Records}
 use Rattle.x86_address.specs.Bytes.{IsBytes}
 use Rattle.x86_address.specs.Follows.{Follows}
-use Rattle.x86_address.specs.Follows.Laws.{takes_all, fails_at_end, most_taken, over_told, over_slice, completes}
+use Rattle.x86_address.specs.Follows.Lemmas.{takes_all, fails_at_end, most_taken, over_told, over_slice, completes}
 use Rattle.vex_rows.specs.Row.{Row, mark_of, opcode_of}
 use Rattle.vex_forms.specs.FormWalk.{taken}
 use Rattle.vex_decode.specs.Spelling.{Syntax, meant, Spells}

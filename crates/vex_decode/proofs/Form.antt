@@ -7,9 +7,9 @@ use Rattle.x86_address.specs.Bytes.{IsBytes}
 use Rattle.x86_address.specs.Place.{Place, NoPlace, Direct, Based, RipBased, Scaled, Baseless, mod_of_displacement, IsPlace, IsOfKind, kind_of, has_sib, mod_of, rm_of, tail_of, place_bytes}
 use Rattle.x86_address.specs.Reading.{Reading, ◌>>=◌}
 use Rattle.x86_address.specs.Bytes.{Displacement, Absent, Short, Long}
-use Rattle.x86_address.specs.Bytes.Laws.{high_field, middle_field, low_field}
-use Rattle.x86_address.specs.Place.Laws.{place_bytes_split, rm_of_below}
-use Rattle.x86_address.specs.Reading.Laws.{Answers}
+use Rattle.x86_address.specs.Bytes.Lemmas.{high_field, middle_field, low_field}
+use Rattle.x86_address.specs.Place.Lemmas.{place_bytes_split, rm_of_below}
+use Rattle.x86_address.specs.Reading.Lemmas.{Answers}
 use Rattle.x86_address.specs.Reading.Places.{take_place-again}
 use Rattle.x86_address.specs.Reading.Places.{reading_is_spelling}
 use Rattle.vex_rows.specs.declared.entry.Entry.{Entry}
@@ -18,13 +18,13 @@ use Rattle.vex_rows.specs.declared.steps.Check.TheVariants.{V0, L0, Reg, Mem, Gr
 use Rattle.vex_rows.specs.FormRows.{gathers}
 use Rattle.vex_rows.specs.Steps.{FormSteps, steps}
 use Rattle.vex_rows.specs.Row.{Among, kinds_of, is_register}
-use Rattle.vex_rows.specs.Tests.{is_prefix_check, is_modrm_check, is_late_check, is_register_check, is_none}
+use Rattle.vex_rows.specs.WellFormed.{is_prefix_check, is_modrm_check, is_late_check, is_register_check, is_none}
 use Rattle.vex_rows.specs.Row.Lists.{both-parts}
 use Rattle.vex_forms.specs.Fields.{Fields}
 use Rattle.vex_decode.specs.Spelling.{FitsReg, FitsImm, imm_bytes}
 use Rattle.vex_forms.specs.FormWalk.{passes, check_all, kind_of_modrm, kind_by, take_imm, Operands, place_by, walk_modrm, walk_alone, walk_form}
-use Rattle.vex_forms.specs.FormWalk.Laws.{bytes_after, ordered, register_checked, walk_form-passed, walk_form-written}
-use Rattle.vex_forms.specs.Layout.Laws.{is_vector-memory_kind, plain-memory_kind, kinds}
+use Rattle.vex_forms.specs.FormWalk.Lemmas.{bytes_after, ordered, register_checked, walk_form-passed, walk_form-written}
+use Rattle.vex_forms.specs.Layout.Lemmas.{is_vector-memory_kind, plain-memory_kind, kinds}
 
 -- the checks pass where all of them hold
 pub check_all-again : (entry : Entry) (f : Fields) (kind : Kind) (reg : ℕ) (cs : List Check) (bytes : List ℕ) → list_all (passes entry f kind reg) cs ≡ true → check_all entry f kind reg cs bytes ≡ Ok (tt, bytes)

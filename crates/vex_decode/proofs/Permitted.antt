@@ -8,7 +8,7 @@ use Rattle.x86_settings.specs.Bits.{is_set}
 use Rattle.x86_settings.specs.Sets.{all_set}
 use Rattle.x86_permit.specs.Permission.{permits}
 use Rattle.x86_permit.specs.LeastSettings.{least}
-use Rattle.x86_permit.specs.LeastSettings.Laws.{permits-least}
+use Rattle.x86_permit.specs.LeastSettings.Lemmas.{permits-least}
 use Rattle.vex_rows.specs.Groups.{groups}
 use Rattle.vex_rows.specs.FormRows.{form_row, gathers}
 use Rattle.vex_rows.specs.Steps.{steps}

@@ -5,7 +5,7 @@ use Rattle.x86_operand.specs.declared.error.DecodeError.{DecodeError}
 use Rattle.x86_operand.specs.declared.error.DecodeError.TheVariants.{ExhaustedInput, InvalidOpcode, Outside}
 use Rattle.x86_operand.specs.Kind.{Kind, WithoutModRM}
 use Rattle.x86_address.specs.Reading.{take_byte, take_place}
-use Rattle.x86_address.specs.Reading.Laws.{IsReader, IsReader-ok, IsReader-err, IsReader-bind, IsReader-if, IsReader-wider, Exhausts, IsReader-take_byte}
+use Rattle.x86_address.specs.Reading.Lemmas.{IsReader, IsReader-ok, IsReader-err, IsReader-bind, IsReader-if, IsReader-wider, Exhausts, IsReader-take_byte}
 use Rattle.x86_address.specs.Reading.Places.{IsReader-take_place}
 use Rattle.vex_rows.specs.declared.entry.Entry.{Entry}
 use Rattle.vex_rows.specs.declared.key.Map.{Map}

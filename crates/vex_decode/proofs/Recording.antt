@@ -4,9 +4,9 @@ use Rattle.std.proofs.Common.{◌≡◌, ◌≢◌, ◌∙◌, ap, sym, subst, r
 use Rattle.x86_operand.specs.declared.error.DecodeError.{DecodeError}
 use Rattle.x86_operand.specs.declared.error.DecodeError.TheVariants.{ExhaustedInput}
 use Rattle.x86_reader.specs.Reader.{ReaderState}
-use Rattle.x86_reader.specs.Reader.Laws.{Passes-none, Passes-trans}
+use Rattle.x86_reader.specs.Reader.Lemmas.{Passes-none, Passes-trans}
 use Rattle.x86_reader.specs.Sink.{SinkState, Triple, Records}
-use Rattle.x86_reader.specs.Sink.Laws.{Records-none, Records-trans}
+use Rattle.x86_reader.specs.Sink.Lemmas.{Records-none, Records-trans}
 use Rattle.x86_address.specs.Reading.{Reading, ◌>>=◌}
 use Rattle.x86_address.specs.Follows.{Answers, Counts, Follows}
 use Rattle.vex_decode.specs.Noting.{Noted, Noting, go_on, ◌>>◌, silent, noting, AnswersNoting, FollowsNoting}

@@ -7,7 +7,7 @@ use Rattle.x86_operand.specs.Meaning.{Decoded}
 use Rattle.x86_reader.specs.Reader.{ReaderState}
 use Rattle.x86_reader.specs.Sink.{SinkState, Records}
 use Rattle.x86_address.specs.Follows.{Follows}
-use Rattle.x86_address.specs.Follows.Laws.{takes_all, fails_at_end, most_taken}
+use Rattle.x86_address.specs.Follows.Lemmas.{takes_all, fails_at_end, most_taken}
 use Rattle.vex_forms.specs.FormWalk.{failure}
 use Rattle.vex_decode.specs.Fields.{PrefixForm, C4, C5}
 use Rattle.vex_decode.specs.Walk.{form_of, walk}

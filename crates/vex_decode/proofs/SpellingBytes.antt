@@ -4,13 +4,13 @@ use Rattle.std.proofs.Common.{arith, sym, subst, length-append}
 use Rattle.x86_operand.specs.Meaning.{Meaning}
 use Rattle.x86_address.specs.Bytes.{IsBytes, bit}
 use Rattle.x86_address.specs.Place.{Place, NoPlace, place_bytes}
-use Rattle.x86_address.specs.Bytes.Laws.{IsBytes-append}
-use Rattle.x86_address.specs.Place.Laws.{IsBytes-place_bytes, tail_length}
+use Rattle.x86_address.specs.Bytes.Lemmas.{IsBytes-append}
+use Rattle.x86_address.specs.Place.Lemmas.{IsBytes-place_bytes, tail_length}
 use Rattle.vex_rows.specs.Row.{Row, IsRow, has_imm}
 use Rattle.vex_rows.specs.Steps.{steps}
 use Rattle.vex_rows.specs.Rules.{map_number, pp_number}
-use Rattle.vex_rows.specs.Table.Laws.{byte_below}
-use Rattle.vex_rows.specs.Row.Laws.{chosen-row}
+use Rattle.vex_rows.specs.Table.Lemmas.{byte_below}
+use Rattle.vex_rows.specs.Row.Lemmas.{chosen-row}
 use Rattle.vex_forms.specs.Fields.{Fields}
 use Rattle.vex_decode.specs.Fields.{PrefixForm, C4, C5, prefix_bytes, IsPrefix}
 use Rattle.vex_decode.specs.Spelling.{Syntax, imm_bytes, bytes_of, FitsReg, FitsImm, IsSyntax, Spells}

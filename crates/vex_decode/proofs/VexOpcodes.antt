@@ -4,7 +4,7 @@ use Rattle.std.specs.List.{list_any}
 use Rattle.std.proofs.Common.{ap, subst, sym}
 use Rattle.x86_opcode.specs.declared.Opcode.{Opcode}
 use Rattle.x86_opcode.specs.Number.{opcode_number, same_opcode}
-use Rattle.x86_opcode.specs.Number.Laws.{same_opcode_equal}
+use Rattle.x86_opcode.specs.Number.Lemmas.{same_opcode_equal}
 use Rattle.x86_opcode.specs.Vex.{is_vex, vex_opcodes}
 use Rattle.vex_rows.specs.Groups.{groups}
 use Rattle.vex_rows.specs.FormRows.{form_row, gathers}

@@ -8,7 +8,7 @@ use Rattle.x86_operand.specs.Kind.{Kind, WithoutModRM}
 use Rattle.x86_address.specs.Bytes.{IsBytes}
 use Rattle.x86_address.specs.Place.{place_bytes}
 use Rattle.x86_address.specs.Reading.{take_byte}
-use Rattle.x86_address.specs.Reading.Laws.{Answers, Answers-ok, Answers-bind, ReadsByte, take_byte-written}
+use Rattle.x86_address.specs.Reading.Lemmas.{Answers, Answers-ok, Answers-bind, ReadsByte, take_byte-written}
 use Rattle.vex_rows.specs.declared.entry.Entry.{Entry}
 use Rattle.vex_rows.specs.declared.form.Form.{Form}
 use Rattle.vex_rows.specs.declared.key.Map.{Map}
@@ -22,21 +22,21 @@ use Rattle.vex_rows.specs.Steps.{steps}
 use Rattle.vex_rows.specs.Groups.{groups}
 use Rattle.vex_rows.specs.Table.{table}
 use Rattle.vex_rows.specs.Row.{Row, Among, IsRow, is_memory, is_group, is_group_check, has_groups, group_choices, permits_choice, group_allowed, has_imm}
-use Rattle.vex_rows.specs.Tests.{is_prefix_check, is_modrm_check, is_late_check}
+use Rattle.vex_rows.specs.WellFormed.{is_prefix_check, is_modrm_check, is_late_check}
 use Rattle.vex_rows.specs.Row.Lists.{both-parts, from-list_all, list_all-each, found-find, find-only, among-append_left, among-append_right, among-append, from-map}
-use Rattle.vex_rows.specs.Row.Laws.{Chosen, chosen-row, row-chosen, checks_of}
-use Rattle.vex_rows.specs.Table.Laws.{one_entry, from-has_key, to-has_key}
+use Rattle.vex_rows.specs.Row.Lemmas.{Chosen, chosen-row, row-chosen, checks_of}
+use Rattle.vex_rows.specs.Table.Lemmas.{one_entry, from-has_key, to-has_key}
 use Rattle.vex_forms.specs.declared.slot.VvvvRule.{VvvvRule}
 use Rattle.vex_forms.specs.declared.slot.VvvvRule.TheVariants.{Named, Zero, Free}
 use Rattle.vex_forms.specs.Slots.{v_rule, demands_v}
-use Rattle.vex_forms.specs.Slots.Laws.{demanded, v_rule-demanded, v_rule-zero}
+use Rattle.vex_forms.specs.Slots.Lemmas.{demanded, v_rule-demanded, v_rule-zero}
 use Rattle.vex_forms.specs.Fields.{Fields, fields_of}
 use Rattle.vex_rows.specs.declared.key.Prefix.{Prefix}
 use Rattle.vex_decode.specs.NotedWalk.{HasEntry}
 use Rattle.vex_decode.specs.Fields.{PrefixForm, prefix_bytes, IsPrefix}
 use Rattle.vex_decode.specs.Spelling.{Syntax, imm_bytes, bytes_of, FitsRule, FitsGroup, IsSyntax}
 use Rattle.vex_forms.specs.FormWalk.{passes, Operands, walk_form, row_of}
-use Rattle.vex_forms.specs.FormWalk.Laws.{Passed, ordered, checks_permit}
+use Rattle.vex_forms.specs.FormWalk.Lemmas.{Passed, ordered, checks_permit}
 use Rattle.vex_decode.specs.Walk.{read_prefix, key_of, entry_of, found, syntax_of, walk}
 use Rattle.vex_decode.proofs.Prefix.{is_one-bit, ReadsPrefix, read_prefix-again, read_prefix-written}
 use Rattle.vex_decode.proofs.Form.{ReadsForm, WritesForm, step_then, walk_form-again, form-written}

@@ -26,7 +26,7 @@ use x86_operand::{DecodeError, FieldDescription, Instruction};
 use x86_reader::{DescriptionSink, Reader};
 
 /// One byte.
-#[tactic(auto, using(x86_address::specs::Follows::Laws::follows_byte, x86_address::specs::Follows::Laws::lacks_byte))]
+#[tactic(auto, using(x86_address::specs::Follows::Lemmas::follows_byte, x86_address::specs::Follows::Lemmas::lacks_byte))]
 fn read_byte<R: Reader>(words: &mut R) -> Result<u8, DecodeError>
     ensures { Follows take_byte Same (R.state words.old) (R.state words.new) result }
 {

@@ -9,12 +9,12 @@ use Rattle.x86_operand.specs.Kind.{Kind, WithoutModRM, InRegister, InMemory, Vec
 use Rattle.x86_operand.specs.Meaning.{OperandMeaning, register, signed, unsigned, nothing}
 use Rattle.x86_address.specs.Place.{Place, Target, NoTarget, Number, At, IsOfKind, kind_of_target, IsPlace, target}
 use Rattle.x86_address.specs.Shortest.{shortest, x_of, b_of}
-use Rattle.x86_address.specs.Shortest.Laws.{kind_of_target-target, names-shortest, IsSpellable-target, plain-in_banks}
+use Rattle.x86_address.specs.Shortest.Lemmas.{kind_of_target-target, names-shortest, IsSpellable-target, plain-in_banks}
 use Rattle.vex_rows.specs.Row.{Among}
 use Rattle.vex_forms.specs.declared.slot.Slot.{Slot}
 use Rattle.vex_forms.specs.declared.slot.Slot.TheVariants.{G, V, E, U8, I8, R4}
 use Rattle.vex_forms.specs.Gives.{slot_operand, target_operand}
-use Rattle.vex_forms.specs.Tests.{immediates}
+use Rattle.vex_forms.specs.WellFormed.{immediates}
 use Rattle.vex_forms.specs.Slots.{names_g, names_v, names_e, names_imm}
 use Rattle.vex_decode.specs.Spelling.{FitsGroup}
 use Rattle.vex_encode.specs.Standard.{operand_of_kind, number_of, imm_of, target_of, reg_for}

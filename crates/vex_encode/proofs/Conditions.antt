@@ -14,24 +14,24 @@ use Rattle.x86_operand.specs.Register.{Register}
 use Rattle.x86_operand.specs.Kind.{Kind, WithoutModRM, InRegister, InMemory, VectorIndexed, is_vector, plain_kind}
 use Rattle.x86_operand.specs.Meaning.{OperandMeaning, register, signed, unsigned, memory, Meaning}
 use Rattle.x86_operand.specs.Same.{same_meaning}
-use Rattle.x86_operand.specs.Same.Laws.{same_meaning_refl}
+use Rattle.x86_operand.specs.Same.Lemmas.{same_meaning_refl}
 use Rattle.x86_address.specs.Place.{Place, Base, NoBase, Rip, Numbered, PlainAddress, Target, Number, At, IsOfKind, kind_of_target, has_sib, IsPlace, target}
 use Rattle.x86_address.specs.Shortest.{plain, plain_base, plain_index, base_in, base_register, index_register, in_banks, shortest, x_of, b_of, IsBase, IsIndex, IsSpellableAddress, IsSpellable}
-use Rattle.x86_address.specs.Spells.Laws.{power_of_scale, scale_of_power}
-use Rattle.x86_address.specs.Shortest.Laws.{kind_of_target-target, names-shortest, sib-shortest, IsSpellable-target}
+use Rattle.x86_address.specs.Spells.Lemmas.{power_of_scale, scale_of_power}
+use Rattle.x86_address.specs.Shortest.Lemmas.{kind_of_target-target, names-shortest, sib-shortest, IsSpellable-target}
 use Rattle.vex_rows.specs.FormRows.{gathers}
 use Rattle.vex_rows.specs.Steps.{steps}
 use Rattle.vex_rows.specs.Groups.{groups}
 use Rattle.vex_rows.specs.Row.{Row, IsRow, Among, has_groups, has_imm, is_memory}
 use Rattle.vex_rows.specs.Row.Lists.{both-parts, parts-both}
-use Rattle.vex_rows.specs.Row.Laws.{chosen-row}
+use Rattle.vex_rows.specs.Row.Lemmas.{chosen-row}
 use Rattle.vex_forms.specs.declared.slot.Slot.{Slot}
 use Rattle.vex_forms.specs.declared.slot.Slot.TheVariants.{G, V, E, U8, I8, R4}
 use Rattle.vex_forms.specs.Slots.{slots, slots_of, index_bank, names_g, names_v, names_e, names_imm}
 use Rattle.vex_forms.specs.Gives.{gives, slot_operand, target_operand}
-use Rattle.vex_forms.specs.Tests.{immediates}
-use Rattle.vex_forms.specs.Slots.Laws.{sound_row, distinct, free}
-use Rattle.vex_forms.specs.Layout.Laws.{kinds, is_memory-memory_kind}
+use Rattle.vex_forms.specs.WellFormed.{immediates}
+use Rattle.vex_forms.specs.Slots.Lemmas.{sound_row, distinct, free}
+use Rattle.vex_forms.specs.Layout.Lemmas.{kinds, is_memory-memory_kind}
 use Rattle.vex_decode.specs.Spelling.{Syntax, meant, IsSyntax}
 use Rattle.vex_encode.specs.Standard.{operand_of_kind, number_of, imm_of, target_of, reg_for, candidate, is_placed, is_given, standard}
 use Rattle.vex_encode.specs.Conditions.{RegisterFits, SlotBaseFits, SlotIndexFits, AddressFits, PlacedFits, OperandFits, OperandsFit, CanGive}

@@ -8,10 +8,10 @@ use Rattle.x86_operand.specs.declared.register.RegisterBank.{RegisterBank}
 use Rattle.x86_operand.specs.Kind.{Kind, WithoutModRM, InRegister, InMemory, VectorIndexed, is_vector, plain_kind, memory_kind}
 use Rattle.x86_operand.specs.Meaning.{OperandMeaning, Meaning}
 use Rattle.x86_operand.specs.Same.{same_meaning}
-use Rattle.x86_operand.specs.Same.Laws.{same_meaning_equal}
+use Rattle.x86_operand.specs.Same.Lemmas.{same_meaning_equal}
 use Rattle.x86_address.specs.Place.{Place, NoPlace, Direct, Based, RipBased, Scaled, Baseless, Target, NoTarget, Number, At, kind_of_target, target, place_bytes}
 use Rattle.x86_address.specs.Shortest.{shortest, x_of, b_of}
-use Rattle.x86_address.specs.Shortest.Laws.{kind_of-shortest, kind_of_target-target}
+use Rattle.x86_address.specs.Shortest.Lemmas.{kind_of-shortest, kind_of_target-target}
 use Rattle.vex_rows.specs.declared.entry.Entry.{Entry}
 use Rattle.vex_rows.specs.declared.form.Form.{Form}
 use Rattle.vex_rows.specs.declared.form.Form.TheVariants.{Nothing}
@@ -29,7 +29,7 @@ use Rattle.vex_forms.specs.declared.slot.Slot.TheVariants.{G, V, E, U8, I8, R4}
 use Rattle.vex_forms.specs.Slots.{slots, slots_at, slots_of, bank_at, names_e}
 use Rattle.vex_forms.specs.Gives.{gives, slot_operand}
 use Rattle.vex_forms.specs.Layout.{kind_for, may_be, row_for}
-use Rattle.vex_forms.specs.Layout.Laws.{kinds, kind-again, is_memory-plain, is_memory-memory_kind}
+use Rattle.vex_forms.specs.Layout.Lemmas.{kinds, kind-again, is_memory-plain, is_memory-memory_kind}
 use Rattle.vex_forms.specs.Fields.{Fields}
 use Rattle.vex_decode.specs.Fields.{C4, C5, prefix_bytes, fits_two_bytes, shortest_form}
 use Rattle.vex_decode.specs.Spelling.{bytes_of, meant, imm_bytes}

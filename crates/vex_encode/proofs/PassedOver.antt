@@ -4,7 +4,7 @@ use Rattle.std.specs.List.{list_all, list_any}
 use Rattle.std.proofs.Common.{get_or, sym, ap, ◌∙◌, subst, eqb-true}
 use Rattle.x86_opcode.specs.declared.Opcode.{Opcode}
 use Rattle.x86_opcode.specs.Number.{opcode_number}
-use Rattle.x86_opcode.specs.Number.Laws.{opcode_number_injective}
+use Rattle.x86_opcode.specs.Number.Lemmas.{opcode_number_injective}
 use Rattle.x86_operand.specs.declared.register.RegisterBank.{RegisterBank}
 use Rattle.x86_operand.specs.Instruction.{operand_at}
 use Rattle.x86_operand.specs.Kind.{Kind, is_vector}

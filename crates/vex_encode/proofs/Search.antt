@@ -9,13 +9,13 @@ use Rattle.std.proofs.lemmas.Bool.{eq-eqb}
 use Rattle.x86_opcode.specs.Number.{opcode_number, same_opcode}
 use Rattle.x86_operand.specs.Meaning.{Meaning}
 use Rattle.x86_operand.specs.Same.{same_meaning}
-use Rattle.x86_operand.specs.Same.Laws.{same_meaning_equal}
+use Rattle.x86_operand.specs.Same.Lemmas.{same_meaning_equal}
 use Rattle.vex_rows.specs.declared.entry.Entry.{Entry}
 use Rattle.vex_rows.specs.Table.{table}
 use Rattle.vex_rows.specs.Row.{Row, Among, rows, exists, opcode_of, choices}
 use Rattle.vex_rows.specs.Row.Lists.{both-parts}
 use Rattle.vex_rows.specs.Entries.{rows_of, has_opcode, entries_with}
-use Rattle.vex_rows.specs.Entries.Laws.{no_row}
+use Rattle.vex_rows.specs.Entries.Lemmas.{no_row}
 use Rattle.vex_forms.specs.Gives.{gives}
 use Rattle.vex_decode.specs.Spelling.{bytes_of, meant}
 use Rattle.vex_encode.specs.Standard.{candidate, is_placed, is_given, standard}

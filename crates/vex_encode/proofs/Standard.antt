@@ -7,32 +7,32 @@ use Rattle.x86_opcode.specs.declared.Opcode.{Opcode}
 use Rattle.x86_operand.specs.Kind.{Kind, WithoutModRM, InRegister, InMemory, VectorIndexed, is_vector, plain_kind}
 use Rattle.x86_operand.specs.Meaning.{OperandMeaning, register, signed, unsigned, memory, nothing, Meaning}
 use Rattle.x86_operand.specs.Same.{same_meaning}
-use Rattle.x86_operand.specs.Same.Laws.{same_meaning_equal, same_meaning_refl}
+use Rattle.x86_operand.specs.Same.Lemmas.{same_meaning_equal, same_meaning_refl}
 use Rattle.x86_address.specs.Place.{Place, NoPlace, Direct, Based, RipBased, Scaled, Baseless, IsPlace, IsOfKind, has_sib, kind_of_target, target, place_bytes}
 use Rattle.x86_address.specs.Shortest.{shortest, x_of, b_of, IsSpellable}
-use Rattle.x86_address.specs.Shortest.Laws.{is_place-shortest, kind_of-shortest, kind_of_target-target, sib-shortest, IsSpellable-target, shortest-least, x_of-target, b_of-target}
-use Rattle.x86_address.specs.Place.Laws.{vector_in_memory}
+use Rattle.x86_address.specs.Shortest.Lemmas.{is_place-shortest, kind_of-shortest, kind_of_target-target, sib-shortest, IsSpellable-target, shortest-least, x_of-target, b_of-target}
+use Rattle.x86_address.specs.Place.Lemmas.{vector_in_memory}
 use Rattle.vex_rows.specs.declared.key.Map.{Map}
 use Rattle.vex_rows.specs.declared.key.Map.TheVariants.{Map0F, Map0F38, Map0F3A}
 use Rattle.vex_rows.specs.Rules.{map_number}
 use Rattle.vex_rows.specs.declared.steps.Check.{Check}
 use Rattle.vex_rows.specs.Steps.{steps}
-use Rattle.vex_rows.specs.Tests.{is_none}
+use Rattle.vex_rows.specs.WellFormed.{is_none}
 use Rattle.vex_rows.specs.Groups.{groups}
 use Rattle.vex_rows.specs.Row.{Row, IsRow, mark_of, opcode_of, Among, group_choices, has_groups, is_group_check, has_imm}
 use Rattle.vex_rows.specs.Row.Lists.{both-parts, parts-both, from-list_all, from-map}
-use Rattle.vex_rows.specs.Row.Laws.{Chosen, chosen-row}
-use Rattle.vex_rows.specs.Groups.Laws.{small_groups}
+use Rattle.vex_rows.specs.Row.Lemmas.{Chosen, chosen-row}
+use Rattle.vex_rows.specs.Groups.Lemmas.{small_groups}
 use Rattle.vex_forms.specs.declared.slot.VvvvRule.{VvvvRule}
 use Rattle.vex_forms.specs.declared.slot.VvvvRule.TheVariants.{Named, Zero, Free}
 use Rattle.vex_forms.specs.Slots.{slots, index_bank, size_of, v_rule, names_g, names_v, names_e, names_imm}
 use Rattle.vex_forms.specs.Gives.{gives, slot_operand}
-use Rattle.vex_forms.specs.Tests.{immediates}
-use Rattle.vex_forms.specs.Slots.Laws.{sound_row, v_rule-zero}
+use Rattle.vex_forms.specs.WellFormed.{immediates}
+use Rattle.vex_forms.specs.Slots.Lemmas.{sound_row, v_rule-zero}
 use Rattle.vex_forms.specs.Fields.{Fields}
 use Rattle.vex_decode.specs.Fields.{PrefixForm, C4, C5, FitsTwoBytes, CanSay, prefix_bytes, fits_two_bytes, shortest_form}
 use Rattle.vex_decode.specs.Spelling.{Syntax, imm_bytes, bytes_of, meant, FitsRule, FitsGroup, FitsReg, FitsImm, IsSyntax, SpellsBy}
-use Rattle.vex_forms.specs.FormWalk.Laws.{ordered}
+use Rattle.vex_forms.specs.FormWalk.Lemmas.{ordered}
 use Rattle.vex_encode.specs.Standard.{operand_of_kind, number_of, imm_of, target_of, fields_for, reg_for, candidate, is_placed, is_given, standard}
 use Rattle.vex_encode.proofs.Candidate.{first_or_none, no_operand, e_given, map_same, slot_again}
 

@@ -11,7 +11,7 @@ use Rattle.x86_address.specs.Bytes.{Begins}
 use Rattle.vex_decode.specs.Blocked.{blocked}
 use Rattle.vex_encode.specs.declared.sweeper.SweepEnd.TheVariants.{End, Stopped}
 use Rattle.vex_encode.specs.Sweep.{AreInPlace, EndsAfter, IsPermitted, Swept, SweptItem, first_of_bytes, item_at, joined, onto, swept, swept_from}
-use Rattle.vex_encode.specs.Sweep.Laws.{from-step, from-stop}
+use Rattle.vex_encode.specs.Sweep.Lemmas.{from-step, from-stop}
 
 -- ---- the items so far
 

@@ -12,11 +12,11 @@ use Rattle.vex_rows.specs.Steps.{steps}
 use Rattle.vex_rows.specs.Groups.{groups}
 use Rattle.vex_rows.specs.Table.{table}
 use Rattle.vex_rows.specs.Row.{Row, Among, IsRow, row_at, exists, has_groups, is_group, is_group_check, is_memory, permits_choice}
-use Rattle.vex_rows.specs.Groups.Laws.{small_groups}
+use Rattle.vex_rows.specs.Groups.Lemmas.{small_groups}
 use Rattle.vex_rows.specs.Row.Lists.{from-map, from-list_all, both-parts, among-append_left, among-append_right}
-use Rattle.vex_rows.specs.Row.Laws.{chosen-row, row-chosen, checks_of}
+use Rattle.vex_rows.specs.Row.Lemmas.{chosen-row, row-chosen, checks_of}
 use Rattle.vex_forms.specs.Layout.{may_be, row_for}
-use Rattle.vex_forms.specs.Layout.Laws.{kind-again, may_be-again, kind-among}
+use Rattle.vex_forms.specs.Layout.Lemmas.{kind-again, may_be-again, kind-among}
 use Rattle.vex_forms.specs.Laws.{IsChoice}
 
 -- an L of one bit

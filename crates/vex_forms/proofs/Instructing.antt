@@ -4,7 +4,7 @@ use Rattle.std.proofs.Common.{ap, ap₂, ◌∙◌}
 use Rattle.x86_operand.specs.Meaning.{Decoded}
 use Rattle.x86_address.specs.Bytes.{bit}
 use Rattle.x86_address.specs.Follows.{Follows}
-use Rattle.x86_address.specs.Follows.Laws.{takes_all}
+use Rattle.x86_address.specs.Follows.Lemmas.{takes_all}
 use Rattle.x86_reader.specs.Reader.{ReaderState}
 use Rattle.vex_rows.specs.declared.entry.Entry.{Entry}
 use Rattle.vex_rows.specs.declared.key.Prefix.{Prefix}
@@ -14,10 +14,10 @@ use Rattle.vex_rows.specs.Row.{Row, Among, kinds_of, is_memory}
 use Rattle.vex_forms.specs.declared.operand_fields.OperandFields.{OperandFields}
 use Rattle.vex_forms.specs.Fields.{fields_of}
 use Rattle.vex_forms.specs.FormWalk.{Operands, walk_form, row_of}
-use Rattle.vex_forms.specs.FormWalk.Laws.{Passed, walk_form-passed}
+use Rattle.vex_forms.specs.FormWalk.Lemmas.{Passed, walk_form-passed}
 use Rattle.vex_forms.specs.Gives.{gives}
 use Rattle.vex_forms.specs.Layout.{group_for, may_be, row_for}
-use Rattle.vex_forms.specs.Layout.Laws.{kind-again, may_be-again, is_memory-plain}
+use Rattle.vex_forms.specs.Layout.Lemmas.{kind-again, may_be-again, is_memory-plain}
 use Rattle.vex_forms.specs.Operands.{target_seen}
 use Rattle.vex_forms.specs.Reads.{IsOperands, IsInstruction, kind_of_e}
 

@@ -14,7 +14,7 @@ use Rattle.x86_address.specs.Place.{place_bytes}
 use Rattle.x86_address.specs.Laws.{ReadingIsSpelling, ReadingFails}
 use Rattle.x86_address.specs.Reading.{Reading, ◌>>=◌, take_byte, take_place}
 use Rattle.x86_address.specs.Follows.{Follows}
-use Rattle.x86_address.specs.Follows.Laws.{takes_all, fails_at_end, most_taken}
+use Rattle.x86_address.specs.Follows.Lemmas.{takes_all, fails_at_end, most_taken}
 use Rattle.vex_rows.specs.declared.entry.Entry.{Entry}
 use Rattle.vex_rows.specs.declared.key.Prefix.{Prefix}
 use Rattle.vex_rows.specs.declared.steps.Check.{Check}
@@ -22,19 +22,19 @@ use Rattle.vex_rows.specs.declared.steps.Check.TheVariants.{V0, L0, Reg, Mem, Gr
 use Rattle.vex_rows.specs.Steps.{FormSteps, steps}
 use Rattle.vex_rows.specs.Table.{table}
 use Rattle.vex_rows.specs.Row.{Among, IsRow, exists, has_imm, is_memory}
-use Rattle.vex_rows.specs.Tests.{is_prefix_check, is_late_check}
+use Rattle.vex_rows.specs.WellFormed.{is_prefix_check, is_late_check}
 use Rattle.vex_rows.specs.Row.Lists.{both-parts}
 use Rattle.vex_forms.specs.declared.slot.VvvvRule.{VvvvRule}
 use Rattle.vex_forms.specs.declared.slot.VvvvRule.TheVariants.{Named, Zero, Free}
 use Rattle.vex_forms.specs.Slots.{demands_v, v_rule}
 use Rattle.vex_forms.specs.Fields.{Fields, fields_of}
 use Rattle.vex_forms.specs.FormWalk.{Operands, passes, refusal, check_all, kind_by, take_imm, place_by, walk_modrm, walk_form, row_of}
-use Rattle.vex_forms.specs.FormWalk.Laws.{Passed, ordered, walk_form-passed, chosen_exists, most_form, walk_form-written}
+use Rattle.vex_forms.specs.FormWalk.Lemmas.{Passed, ordered, walk_form-passed, chosen_exists, most_form, walk_form-written}
 use Rattle.vex_forms.specs.Written.{FitsRule, WritesForm}
 use Rattle.vex_forms.specs.Reads.{HasPrefix, IsInstruction, TakesForm, FailsForm}
 use Rattle.vex_forms.proofs.Choosing.{choice-is_row}
 use Rattle.vex_forms.proofs.Instructing.{row_again, may_again}
-use Rattle.vex_forms.specs.Slots.Laws.{demanded, v_rule-zero}
+use Rattle.vex_forms.specs.Slots.Lemmas.{demanded, v_rule-zero}
 
 -- ---- after an error
 

@@ -5,7 +5,7 @@ use Rattle.vex_rows.specs.Table.{table}
 use Rattle.vex_rows.specs.Row.{Row, Among, IsRow, exists}
 use Rattle.vex_forms.specs.Layout.{may_be, row_for}
 use Rattle.vex_forms.specs.Slots.{slots}
-use Rattle.vex_forms.specs.Tests.{is_sound}
+use Rattle.vex_forms.specs.WellFormed.{is_sound}
 
 -- a row has at most four slots
 abbrev pub SlotsAreFew : Type 0

@@ -1,5 +1,5 @@
 -- The row of an entry that a caller chooses, and what the layout of a row shows.
-pub mod Laws
+pub mod Lemmas
 use Rattle.std.specs.Prelude.{◌≡◌, ℕ, ◌≤◌, Bool, not, ◌&&◌, ◌||◌, Option, Some, None, if◌then◌else◌}
 use Rattle.x86_operand.specs.Kind.{Kind, WithoutModRM, InRegister, is_vector, memory_kind}
 use Rattle.vex_rows.specs.declared.entry.Entry.{Entry}

@@ -1,6 +1,6 @@
 pub mod Slots
 pub mod Gives
-pub mod Tests
+pub mod WellFormed
 pub mod Layout
 pub mod Laws
 pub mod Fields

@@ -1,5 +1,5 @@
 -- What it is for the code to hold what the steps of a form read, and what a call that reads a form says.
-pub mod Laws
+pub mod Lemmas
 use Rattle.std.specs.Prelude.{◌≡◌, ◌≤◌, ◌==◌, ℕ, Bool, true, List, length, Some, None}
 use Rattle.x86_operand.specs.declared.error.DecodeError.{DecodeError}
 use Rattle.x86_reader.specs.Reader.{ReaderState, Takes, Passes}

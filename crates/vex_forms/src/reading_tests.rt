@@ -418,7 +418,7 @@ struct Reading {
 
 /// What is read by the entry that the prefix and the opcode byte choose, where there is one and the field vvvv is below
 /// 16.
-#[tactic(auto, using(crate::specs::Reads::Laws::has_prefix))]
+#[tactic(auto, using(crate::specs::Reads::Lemmas::has_prefix))]
 fn read_by<L: Ledger>(prefix: &Prefix, byte: u8, bytes: &[u8], blank: Blank) -> Option<Reading>
     requires name { blank.name ≡ L.name }
     requires parts { blank.parts ≡ L.parts }

@@ -7,7 +7,7 @@ use Rattle.std.proofs.lemmas.List.{append-nil}
 use Rattle.std.proofs.lemmas.Map.Lookups.{exact_bytes}
 use Rattle.x86_operand.specs.Meaning.{Meaning}
 use Rattle.x86_operand.specs.Same.{same_meaning}
-use Rattle.x86_operand.specs.Same.Laws.{same_meaning_equal, same_meaning_refl}
+use Rattle.x86_operand.specs.Same.Lemmas.{same_meaning_equal, same_meaning_refl}
 use Rattle.x86_address.specs.Bytes.{IsBytes}
 use Rattle.x86_address.specs.Reading.{Reading}
 use Rattle.vex_rows.specs.Row.{Row, Among}

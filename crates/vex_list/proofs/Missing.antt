@@ -11,12 +11,12 @@ use Rattle.x86_operand.specs.Meaning.{OperandMeaning, nothing, Meaning}
 use Rattle.x86_address.specs.Bytes.{bit}
 use Rattle.x86_address.specs.Place.{Place, NoPlace, Direct, Based, RipBased, Scaled, Baseless, kind_of, Target, NoTarget, Number, At, kind_of_target, target}
 use Rattle.x86_address.specs.Shortest.{is_upper}
-use Rattle.x86_address.specs.Shortest.Laws.{kind_of_target-target, plain-in_banks, is_upper-field}
+use Rattle.x86_address.specs.Shortest.Lemmas.{kind_of_target-target, plain-in_banks, is_upper-field}
 use Rattle.vex_rows.specs.FormRows.{gathers}
 use Rattle.vex_rows.specs.Steps.{steps}
 use Rattle.vex_rows.specs.Row.{Row, Among, IsRow, has_groups, has_imm, group_choices}
 use Rattle.vex_rows.specs.Groups.{groups}
-use Rattle.vex_rows.specs.Row.Laws.{Chosen, chosen-row}
+use Rattle.vex_rows.specs.Row.Lemmas.{Chosen, chosen-row}
 use Rattle.vex_forms.specs.declared.slot.Slot.{Slot}
 use Rattle.vex_forms.specs.declared.slot.Slot.TheVariants.{G, V, E, U8, I8, R4}
 use Rattle.vex_forms.specs.declared.slot.VvvvRule.{VvvvRule}

@@ -6,7 +6,7 @@ use Rattle.std.proofs.lemmas.Int.{ints}
 use Rattle.x86_address.specs.Bytes.{bit, Displacement, Absent, Short, Long, IsDisplacement, displacement_value}
 use Rattle.x86_address.specs.Place.{Place, NoPlace, Direct, Based, RipBased, Scaled, Baseless, IsPlace, index_of, target}
 use Rattle.x86_address.specs.Shortest.{index_field, doubleword_of}
-use Rattle.x86_address.specs.Shortest.Laws.{low_field_again, is_upper-field}
+use Rattle.x86_address.specs.Shortest.Lemmas.{low_field_again, is_upper-field}
 use Rattle.vex_rows.specs.Row.Lists.{both-parts}
 use Rattle.vex_list.specs.declared.choices.Width.{Width}
 use Rattle.vex_list.specs.declared.choices.Width.TheVariants.{NoBytes, OneByte, FourBytes}

@@ -7,7 +7,7 @@ use Rattle.vex_rows.specs.Entries.{entries_with}
 use Rattle.vex_rows.specs.Laws.{RowsHaveEntries}
 use Rattle.vex_rows.specs.Row.{Row, IsRow, Among, exists, has_groups, opcode_of}
 use Rattle.vex_rows.specs.Row.Lists.{both-parts, parts-both}
-use Rattle.vex_rows.specs.Row.Laws.{chosen-row}
+use Rattle.vex_rows.specs.Row.Lemmas.{chosen-row}
 use Rattle.vex_rows.specs.Table.{table}
 use Rattle.vex_forms.specs.Gives.{gives}
 use Rattle.vex_forms.specs.Laws.{RowsAreChoices, ChoicesAreRows}

@@ -11,7 +11,7 @@ use Rattle.vex_rows.specs.Index.{cell_of}
 use Rattle.vex_rows.specs.Row.{Among}
 use Rattle.vex_rows.specs.Rules.{allows, has_key, map_number, pp_number}
 use Rattle.vex_rows.specs.Table.{table}
-use Rattle.vex_rows.specs.Table.Laws.{from-has_key}
+use Rattle.vex_rows.specs.Table.Lemmas.{from-has_key}
 use Rattle.vex_rows.specs.Row.Lists.{both-parts, parts-both, none-append, none-flat_map, wrong, right, below, among-below, among_bits}
 
 -- a key of an opcode map and an implied prefix

@@ -4,7 +4,7 @@ use Rattle.std.proofs.lemmas.Bool.{lt-ltb}
 use Rattle.std.proofs.lemmas.Option.{slice_get_within}
 use Rattle.x86_opcode.specs.declared.Opcode.{Opcode}
 use Rattle.x86_opcode.specs.Number.{opcode_number, same_opcode}
-use Rattle.x86_opcode.specs.Number.Laws.{same_opcode_equal, same_opcode_refl}
+use Rattle.x86_opcode.specs.Number.Lemmas.{same_opcode_equal, same_opcode_refl}
 use Rattle.vex_rows.specs.declared.form_row.ByteCount.{ByteCount}
 use Rattle.vex_rows.specs.declared.form_row.SizeList.{SizeList}
 use Rattle.vex_rows.specs.declared.form_row.SizeList.TheVariants.{Extract}

@@ -1,5 +1,5 @@
 -- The rows of an entry, and the entries of an opcode.
-pub mod Laws
+pub mod Lemmas
 use Rattle.std.specs.Prelude.{Bool, List, filter}
 use Rattle.std.specs.List.{list_any}
 use Rattle.x86_opcode.specs.declared.Opcode.{Opcode}

@@ -1,4 +1,4 @@
-pub mod Laws
+pub mod Lemmas
 use Rattle.std.specs.Prelude.{Bool, List, slice_index_or}
 use denote.Enum.Declared.{tag_of}
 use Rattle.x86_opcode.specs.declared.Opcode.{Opcode}

@@ -1,4 +1,4 @@
-pub mod Laws
+pub mod Lemmas
 use Rattle.std.specs.Prelude.{ℕ, List}
 use Rattle.x86_opcode.specs.declared.Opcode.{Opcode}
 use Rattle.vex_rows.specs.declared.form.Form.{Form}

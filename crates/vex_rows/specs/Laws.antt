@@ -12,7 +12,7 @@ use Rattle.vex_rows.specs.Groups.{groups}
 use Rattle.vex_rows.specs.Table.{table}
 use Rattle.vex_rows.specs.Row.{Row, Among, IsRow, opcode_of}
 use Rattle.vex_rows.specs.Entries.{entries_with}
-use Rattle.vex_rows.specs.Tests.{is_orderly, checks_address, out_of_order}
+use Rattle.vex_rows.specs.WellFormed.{is_orderly, checks_address, out_of_order}
 
 -- two entries of the table that have one key are one
 abbrev pub KeysAreApart : Type 0

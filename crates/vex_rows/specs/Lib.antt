@@ -8,5 +8,5 @@ pub mod Row
 pub mod Cells
 pub mod Index
 pub mod Entries
-pub mod Tests
+pub mod WellFormed
 pub mod Laws

@@ -1,4 +1,4 @@
-pub mod Laws
+pub mod Lemmas
 use Rattle.std.specs.Prelude.{List}
 use Rattle.vex_rows.specs.declared.entry.Entry.{Entry}
 use Rattle.vex_rows.specs.declared.table.TheConstants.{TABLE}

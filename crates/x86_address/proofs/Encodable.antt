@@ -14,9 +14,9 @@ use Rattle.x86_address.specs.Place.{Numbered, PlainAddress, At}
 use Rattle.x86_address.specs.Shortest.{plain, plain_base, plain_index, base_in, base_register, index_register, shortest}
 use Rattle.x86_address.specs.Shortest.{x_of, b_of, IsBase, IsIndex, IsSpellableAddress}
 use Rattle.x86_address.specs.Spells.{SpellsAddress, BankFits, BaseFits, IndexFits, HasModRM}
-use Rattle.x86_address.specs.Spells.Laws.{scale_of_power}
-use Rattle.x86_address.specs.Place.Laws.{place_bytes_split, rm_of_below}
-use Rattle.x86_address.specs.Shortest.Laws.{is_place-shortest, kind_of-shortest, plain-in_banks}
+use Rattle.x86_address.specs.Spells.Lemmas.{scale_of_power}
+use Rattle.x86_address.specs.Place.Lemmas.{place_bytes_split, rm_of_below}
+use Rattle.x86_address.specs.Shortest.Lemmas.{is_place-shortest, kind_of-shortest, plain-in_banks}
 use Rattle.x86_address.proofs.Spelling.{only_spellable, shortest_spells, shortest_is_least}
 
 -- an index that fits is in bank Q

@@ -10,7 +10,7 @@ use Rattle.x86_operand.specs.Register.{Register}
 use Rattle.x86_address.specs.Bytes.{bit, Displacement, displacement_value}
 use Rattle.x86_address.specs.Place.{Place, PlainAddress, At, target, Based, RipBased, Scaled, Baseless, index_of}
 use Rattle.x86_address.specs.Shortest.{plain, in_banks, index_register}
-use Rattle.x86_address.specs.Shortest.Laws.{plain-in_banks}
+use Rattle.x86_address.specs.Shortest.Lemmas.{plain-in_banks}
 use Rattle.x86_address.specs.Reads.{NamesAddress}
 
 -- a base is named where mod isn't 0 or the number isn't 5

@@ -7,14 +7,14 @@ use Rattle.x86_address.specs.Place.{kind_of_target, target, SpellsTarget}
 use Rattle.x86_address.specs.Shortest.{shortest, x_of, b_of, IsSpellable}
 use Rattle.x86_address.specs.Laws.{OnlySpellable, ShortestSpells, ShortestIsLeast, XIsFixed, BIsFixed, DemandedIsSet}
 use Rattle.x86_address.specs.Laws.{ReadingFails, OnePlace, OneReading}
-use Rattle.x86_address.specs.Bytes.Laws.{same_fields}
-use Rattle.x86_address.specs.Reading.Laws.{same_read}
+use Rattle.x86_address.specs.Bytes.Lemmas.{same_fields}
+use Rattle.x86_address.specs.Reading.Lemmas.{same_read}
 use Rattle.x86_address.specs.Reading.Places.{take_place-again, take_place-fails, same_parts}
-use Rattle.x86_address.specs.Place.Laws.{vector_in_memory, plain_without, has_modrm, place_bytes_split, rm_of_below}
-use Rattle.x86_address.specs.Place.Laws.{place_bytes_none}
-use Rattle.x86_address.specs.Shortest.Laws.{is_place-shortest, kind_of-shortest, kind_of_target-target, names-shortest}
-use Rattle.x86_address.specs.Shortest.Laws.{sib-shortest, IsSpellable-target, shortest-least, x_fixed_or_ignored}
-use Rattle.x86_address.specs.Shortest.Laws.{b_fixed_or_ignored, x_of-target, b_of-target}
+use Rattle.x86_address.specs.Place.Lemmas.{vector_in_memory, plain_without, has_modrm, place_bytes_split, rm_of_below}
+use Rattle.x86_address.specs.Place.Lemmas.{place_bytes_none}
+use Rattle.x86_address.specs.Shortest.Lemmas.{is_place-shortest, kind_of-shortest, kind_of_target-target, names-shortest}
+use Rattle.x86_address.specs.Shortest.Lemmas.{sib-shortest, IsSpellable-target, shortest-least, x_fixed_or_ignored}
+use Rattle.x86_address.specs.Shortest.Lemmas.{b_fixed_or_ignored, x_of-target, b_of-target}
 
 -- what bytes spell is in range, and of their kind
 pub only_spellable : OnlySpellable

@@ -16,15 +16,15 @@ use Rattle.x86_address.specs.Place.{kind_of_target, target, SpellsTarget}
 use Rattle.x86_address.specs.Shortest.{plain, in_banks}
 use Rattle.x86_address.specs.Reading.{Reading, take_byte, take_doubleword, take_displacement, take_baseless}
 use Rattle.x86_address.specs.Reading.{take_scaled, take_sib, take_place}
-use Rattle.x86_address.specs.Most.Laws.{most_place}
+use Rattle.x86_address.specs.Most.Lemmas.{most_place}
 use Rattle.x86_address.specs.Follows.{Same, Follows}
-use Rattle.x86_address.specs.Follows.Laws.{takes_all, fails_at_end, most_taken, follows_true, follows_false}
+use Rattle.x86_address.specs.Follows.Lemmas.{takes_all, fails_at_end, most_taken, follows_true, follows_false}
 use Rattle.x86_address.specs.Reads.{NamesAddress, SpelledBy, CutShort}
-use Rattle.x86_address.specs.Bytes.Laws.{IsBytes-append, low_field_below}
-use Rattle.x86_address.specs.Place.Laws.{sib_by_rm, has_modrm, place_bytes_split, place_bytes_none}
-use Rattle.x86_address.specs.Reading.Laws.{same_read}
+use Rattle.x86_address.specs.Bytes.Lemmas.{IsBytes-append, low_field_below}
+use Rattle.x86_address.specs.Place.Lemmas.{sib_by_rm, has_modrm, place_bytes_split, place_bytes_none}
+use Rattle.x86_address.specs.Reading.Lemmas.{same_read}
 use Rattle.x86_address.specs.Reading.Places.{take_byte-fails, take_place-fails, modrm-written, modrm-again, same_parts}
-use Rattle.x86_address.specs.Shortest.Laws.{kind_of_target-target}
+use Rattle.x86_address.specs.Shortest.Lemmas.{kind_of_target-target}
 use Rattle.x86_address.proofs.Completing.{fails_before, completable_place}
 
 -- bytes that were taken are bytes

@@ -1,4 +1,4 @@
-pub mod Laws
+pub mod Lemmas
 use Rattle.std.specs.Prelude.{◌≡◌, ℕ, ◌/◌, ◌%◌, ◌^◌, ◌<◌, ℤ, pos, Bool, true, false, List, [], ◌∷◌, ◌++◌}
 use Rattle.std.specs.Int.{cast_signed, w8, w32}
 use Rattle.std.specs.List.{AllByRecursion}

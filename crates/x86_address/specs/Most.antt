@@ -1,5 +1,5 @@
 -- How many bytes a step takes at most.
-pub mod Laws
+pub mod Lemmas
 use Rattle.std.specs.Prelude.{ℕ, ◌≤◌, ◌+◌, List, length, Ok, Err}
 use Rattle.x86_address.specs.Reading.{Reading}
 

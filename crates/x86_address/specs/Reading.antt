@@ -1,4 +1,4 @@
-pub mod Laws
+pub mod Lemmas
 pub mod Places
 use Rattle.std.specs.Prelude.{ℕ, ◌+◌, ◌*◌, ◌/◌, ◌%◌, ◌&&◌, ◌==◌, List, [], ◌∷◌, Result, Ok, Err, if◌then◌else◌}
 use Rattle.x86_operand.specs.declared.error.DecodeError.{DecodeError}

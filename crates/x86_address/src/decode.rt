@@ -115,7 +115,7 @@ pub fn read_imm<R: Reader>(words: &mut R) -> Result<u8, DecodeError>
 }
 
 // One byte.
-#[tactic(auto, using(crate::specs::Follows::Laws::follows_byte, crate::specs::Follows::Laws::lacks_byte))]
+#[tactic(auto, using(crate::specs::Follows::Lemmas::follows_byte, crate::specs::Follows::Lemmas::lacks_byte))]
 fn read_byte<R: Reader>(words: &mut R) -> Result<u8, DecodeError>
     ensures { Follows take_byte Same (R.state words.old) (R.state words.new) result }
 {

@@ -42,7 +42,7 @@ fn base_fits(base: Option<RegSpec>, index: Option<Index>) -> bool
 }
 
 // Whether SIB can say this scale.
-#[tactic(auto, using(crate::specs::Spells::Laws::power_of_scale))]
+#[tactic(auto, using(crate::specs::Spells::Lemmas::power_of_scale))]
 fn scale_fits(scale: u8) -> bool
     ensures fits { IsTrue result ↔ IsScale scale }
     ensures power { IsTrue result → IsPower scale }

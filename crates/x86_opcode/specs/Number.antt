@@ -1,6 +1,6 @@
 -- The numbers of opcodes, written by tools/opcodes.py.
 pub mod Listed
-pub mod Laws
+pub mod Lemmas
 use Rattle.std.specs.Prelude.{ℕ, ◌+◌, Bool, ◌==◌}
 use Rattle.x86_opcode.specs.declared.Opcode.{Opcode}
 use Rattle.x86_opcode.specs.declared.Opcode.TheVariants.{Invalid, BSF, Legacy, Integer, Float, Fused, Marked}

@@ -1,5 +1,5 @@
 -- Where the opcode of a name stands: private functions cite this, and no public contract.
-pub mod Laws
+pub mod Lemmas
 use Rattle.std.specs.Prelude.{ℕ, ◌+◌, ◌*◌, ◌/◌, ◌%◌, List, [], ◌∷◌, slice_index_or}
 use Rattle.x86_opcode.specs.declared.slots.TheConstants.{SHIFTS, SLOTS}
 use Rattle.x86_opcode.specs.declared.Opcode.{Opcode}

@@ -1,6 +1,6 @@
 -- The VEX opcodes, written by tools/opcodes.py.
 pub mod Parts
-pub mod Laws
+pub mod Lemmas
 use Rattle.std.specs.Prelude.{Bool, List, [], ◌∷◌}
 use Rattle.std.specs.List.{list_any}
 use Rattle.x86_opcode.specs.declared.Opcode.{Opcode}

@@ -26,7 +26,7 @@ impl Opcode {
     }
 
     /// Whether the two opcodes are one.
-    #[tactic(auto, using(crate::specs::Number::Laws::opcode_number_injective))]
+    #[tactic(auto, using(crate::specs::Number::Lemmas::opcode_number_injective))]
     pub fn is(self, other: Opcode) -> bool
         ensures { IsTrue result ↔ (self ≡ other) }
     {

@@ -1,5 +1,5 @@
 -- How an instruction keeps its operands.
-pub mod Laws
+pub mod Lemmas
 use Rattle.std.specs.Prelude.{ℕ, zero, pos, ℤ, List, [], ◌∷◌, Option, Some, None, slice_index_or}
 use Rattle.x86_operand.specs.declared.address.Address.{Address}
 use Rattle.x86_operand.specs.declared.address.Index.{Index}

@@ -1,5 +1,5 @@
 -- Tests of equality: each is true exactly where its two values are one.
-pub mod Laws
+pub mod Lemmas
 use Rattle.std.specs.Prelude.{Bool, true, false, ◌&&◌, ◌==◌, nat_eq, List}
 use Rattle.std.specs.Bool.{beq}
 use Rattle.std.specs.Option.{option_eq}

@@ -45,7 +45,7 @@ pub enum Operand {
 impl PartialEq for Index {
     ghost use Rattle.std.specs.Cmp.{decided, partial_equiv_from_equiv};
     ghost use Rattle.x86_operand.specs.Same.{same_index};
-    ghost use Rattle.x86_operand.specs.Same.Laws.{same_index_decides};
+    ghost use Rattle.x86_operand.specs.Same.Lemmas.{same_index_decides};
 
     ghost eq = { same_index };
 
@@ -61,7 +61,7 @@ impl PartialEq for Index {
 impl Eq for Index {
     ghost use Rattle.std.specs.Cmp.{decided};
     ghost use Rattle.x86_operand.specs.Same.{same_index};
-    ghost use Rattle.x86_operand.specs.Same.Laws.{same_index_decides};
+    ghost use Rattle.x86_operand.specs.Same.Lemmas.{same_index_decides};
 
     ghost laws = { decided same_index same_index_decides };
 }
@@ -70,13 +70,13 @@ impl Eq for Index {
 impl PartialEq for Address {
     ghost use Rattle.std.specs.Cmp.{decided, partial_equiv_from_equiv};
     ghost use Rattle.x86_operand.specs.Same.{same_address};
-    ghost use Rattle.x86_operand.specs.Same.Laws.{same_address_decides};
+    ghost use Rattle.x86_operand.specs.Same.Lemmas.{same_address_decides};
 
     ghost eq = { same_address };
 
     ghost laws = { partial_equiv_from_equiv (decided same_address same_address_decides) };
 
-    #[tactic(auto, using(crate::specs::Same::Laws::address_parts))]
+    #[tactic(auto, using(crate::specs::Same::Lemmas::address_parts))]
     fn eq(&self, other: &Address) -> bool
         ensures same { IsTrue result ↔ (self.now ≡ other.now) }
     {
@@ -87,7 +87,7 @@ impl PartialEq for Address {
 impl Eq for Address {
     ghost use Rattle.std.specs.Cmp.{decided};
     ghost use Rattle.x86_operand.specs.Same.{same_address};
-    ghost use Rattle.x86_operand.specs.Same.Laws.{same_address_decides};
+    ghost use Rattle.x86_operand.specs.Same.Lemmas.{same_address_decides};
 
     ghost laws = { decided same_address same_address_decides };
 }
@@ -135,13 +135,13 @@ impl PartialEq for Operand {
     ghost use Rattle.std.specs.Ordering.{on};
     ghost use Rattle.x86_operand.specs.Meaning.{operand_meaning};
     ghost use Rattle.x86_operand.specs.Same.{same_operand};
-    ghost use Rattle.x86_operand.specs.Same.Laws.{same_operand_decides};
+    ghost use Rattle.x86_operand.specs.Same.Lemmas.{same_operand_decides};
 
     ghost eq = { on operand_meaning same_operand };
 
     ghost laws = { partial_equiv_from_equiv (on_equiv operand_meaning (decided same_operand same_operand_decides)) };
 
-    #[tactic(auto, using(crate::specs::Same::Laws::address_parts))]
+    #[tactic(auto, using(crate::specs::Same::Lemmas::address_parts))]
     fn eq(&self, other: &Operand) -> bool
         ensures same { IsTrue result ↔ (operand_meaning self.now ≡ operand_meaning other.now) }
     {
@@ -162,7 +162,7 @@ impl Eq for Operand {
     ghost use Rattle.std.specs.Cmp.{decided, on_equiv};
     ghost use Rattle.x86_operand.specs.Meaning.{operand_meaning};
     ghost use Rattle.x86_operand.specs.Same.{same_operand};
-    ghost use Rattle.x86_operand.specs.Same.Laws.{same_operand_decides};
+    ghost use Rattle.x86_operand.specs.Same.Lemmas.{same_operand_decides};
 
     ghost laws = { on_equiv operand_meaning (decided same_operand same_operand_decides) };
 }

@@ -29,7 +29,7 @@ impl Model for Instruction {
     ghost use Rattle.x86_operand.specs.Meaning.{operand_meaning, Meaning, Decoded};
     ghost use Rattle.x86_operand.specs.Instruction.{four_places};
     ghost use Rattle.std.proofs.Common.{sym};
-    ghost use Rattle.x86_operand.specs.Instruction.Laws.{length-kept};
+    ghost use Rattle.x86_operand.specs.Instruction.Lemmas.{length-kept};
 
     ghost Value = { Decoded };
 
@@ -96,7 +96,7 @@ impl Instruction {
 
     /// The instruction of that meaning with length 0, or `None` where there are more than four
     /// operands.
-    #[tactic(auto, using(crate::specs::Instruction::Laws::places))]
+    #[tactic(auto, using(crate::specs::Instruction::Lemmas::places))]
     pub fn from_parts(
         evex: bool,
         opcode: Opcode,
@@ -135,7 +135,7 @@ impl Instruction {
     }
 
     /// The number of operands, at most 4.
-    #[tactic(auto, using(crate::specs::Instruction::Laws::places))]
+    #[tactic(auto, using(crate::specs::Instruction::Lemmas::places))]
     pub fn operand_count(&self) -> u8
         ensures value { result ≡ length self.now.meaning.operands }
         ensures within { result ≤ 4 }
@@ -146,7 +146,7 @@ impl Instruction {
     /// The operand at place `i`, counted from 0, and `Nothing` from the count on. An address is a
     /// `MemDeref` exactly where it has a base, no index and displacement 0, and a `Memory`
     /// otherwise.
-    #[tactic(auto, using(crate::specs::Instruction::Laws::places))]
+    #[tactic(auto, using(crate::specs::Instruction::Lemmas::places))]
     pub fn operand(&self, i: u8) -> Operand
         ensures meaning { operand_meaning result ≡ operand_at self.now.meaning.operands i }
         ensures form { result ≡ kept_operand (operand_at self.now.meaning.operands i) }
@@ -194,7 +194,7 @@ impl Instruction {
 
     /// Whether the two have one meaning: the same mark, opcode, operands and memory size, whatever
     /// their lengths.
-    #[tactic(auto, using(crate::specs::Same::Laws::meaning_parts))]
+    #[tactic(auto, using(crate::specs::Same::Lemmas::meaning_parts))]
     pub fn has_same_meaning(&self, other: &Instruction) -> bool
         ensures { IsTrue result ↔ (self.now.meaning ≡ other.now.meaning) }
     {
@@ -216,7 +216,7 @@ impl Instruction {
 impl PartialEq for Instruction {
     ghost use Rattle.std.specs.Cmp.{decided, partial_equiv_from_equiv};
     ghost use Rattle.x86_operand.specs.Same.{same_decoded};
-    ghost use Rattle.x86_operand.specs.Same.Laws.{same_decoded_decides};
+    ghost use Rattle.x86_operand.specs.Same.Lemmas.{same_decoded_decides};
 
     ghost eq = { same_decoded };
 
@@ -232,7 +232,7 @@ impl PartialEq for Instruction {
 impl Eq for Instruction {
     ghost use Rattle.std.specs.Cmp.{decided};
     ghost use Rattle.x86_operand.specs.Same.{same_decoded};
-    ghost use Rattle.x86_operand.specs.Same.Laws.{same_decoded_decides};
+    ghost use Rattle.x86_operand.specs.Same.Lemmas.{same_decoded_decides};
 
     ghost laws = { decided same_decoded same_decoded_decides };
 }

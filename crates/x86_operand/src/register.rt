@@ -120,7 +120,7 @@ impl RegSpec {
 impl PartialEq for RegSpec {
     ghost use Rattle.std.specs.Cmp.{decided, partial_equiv_from_equiv};
     ghost use Rattle.x86_operand.specs.Same.{same_register};
-    ghost use Rattle.x86_operand.specs.Same.Laws.{same_register_decides};
+    ghost use Rattle.x86_operand.specs.Same.Lemmas.{same_register_decides};
 
     ghost eq = { same_register };
 
@@ -136,7 +136,7 @@ impl PartialEq for RegSpec {
 impl Eq for RegSpec {
     ghost use Rattle.std.specs.Cmp.{decided};
     ghost use Rattle.x86_operand.specs.Same.{same_register};
-    ghost use Rattle.x86_operand.specs.Same.Laws.{same_register_decides};
+    ghost use Rattle.x86_operand.specs.Same.Lemmas.{same_register_decides};
 
     ghost laws = { decided same_register same_register_decides };
 }

@@ -8,8 +8,8 @@ use Rattle.x86_settings.specs.Bits.{all_bits}
 use Rattle.x86_permit.specs.Permission.{condition_holds, permits}
 use Rattle.x86_permit.specs.LeastSettings.{least}
 use Rattle.x86_permit.specs.Laws.{LeastSettingsPermit, MoreSettingsPermitMore, AllSettingsPermitAll, VexOpcodesStay}
-use Rattle.x86_permit.specs.LeastSettings.Laws.{permits-least}
-use Rattle.x86_permit.specs.Permission.Laws.{vex_stays}
+use Rattle.x86_permit.specs.LeastSettings.Lemmas.{permits-least}
+use Rattle.x86_permit.specs.Permission.Lemmas.{vex_stays}
 use Rattle.x86_permit.proofs.Bits.{all_set-set}
 
 pub least_settings : LeastSettingsPermit

@@ -1,5 +1,5 @@
 -- The least settings that permit an instruction in VEX form.
-pub mod Laws
+pub mod Lemmas
 use Rattle.std.specs.Prelude.{ℕ, List, [], ◌∷◌}
 use Rattle.x86_opcode.specs.declared.Opcode.{Opcode}
 use Rattle.x86_opcode.specs.declared.Opcode.TheVariants.{Integer, Float}

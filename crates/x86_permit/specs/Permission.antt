@@ -1,5 +1,5 @@
 -- Which instructions settings permit, and what these become.
-pub mod Laws
+pub mod Lemmas
 use Rattle.std.specs.Prelude.{ℕ, Bool, true, false, ◌&&◌, ◌||◌, not, if◌then◌else◌, List, [], ◌∷◌, Option, Some, None}
 use Rattle.x86_opcode.specs.declared.Opcode.{Opcode}
 use Rattle.x86_opcode.specs.declared.Opcode.TheVariants.{BSF, Legacy}

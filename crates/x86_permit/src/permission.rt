@@ -104,7 +104,7 @@ fn revised_opcode(settings: &InstDecoder, evex: bool, opcode: Opcode) -> Opcode
 ///
 /// The only error is `InvalidOpcode`. It comes exactly where the condition of the opcode without the mark doesn't
 /// hold, or, with the mark, where neither `avx512` is whole nor the bits are set that the opcode needs beside it.
-#[tactic(auto, using(crate::specs::Permission::Laws::vex_stays))]
+#[tactic(auto, using(crate::specs::Permission::Lemmas::vex_stays))]
 pub fn revise_instruction(settings: &InstDecoder, inst: &mut Instruction) -> Result<(), DecodeError>
     ensures permitted { IsOk result ↔ (permits settings.now inst.old.meaning.evex inst.old.meaning.opcode ≡ true) }
     ensures refused { IsErr result ↔ (permits settings.now inst.old.meaning.evex inst.old.meaning.opcode ≡ false) }

@@ -1,5 +1,5 @@
 -- What a reader shows of itself, and what it is to take bytes from it.
-pub mod Laws
+pub mod Lemmas
 use Rattle.std.specs.Prelude.{◌≡◌, ℕ, ◌+◌, ◌-◌, ◌^◌, ◌<◌, ◌≤◌, ◌⊎◌, List, length, Option, All}
 use Rattle.std.specs.Io.KnownBytes.{prepend_known}
 

@@ -1,5 +1,5 @@
 -- What a sink shows of itself, and what it is to record triples in it.
-pub mod Laws
+pub mod Lemmas
 use Rattle.std.specs.Prelude.{◌≡◌, ℕ, ◌+◌, ◌-◌, ◌≤◌, ◌↔◌, Bool, IsTrue, if◌then◌else◌, List, ◌++◌, length, take, Option}
 use Rattle.std.specs.Prelude.{Some, None, IsSome}
 use Rattle.std.specs.Option.{option_map}

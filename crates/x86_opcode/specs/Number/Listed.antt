@@ -13,8 +13,7 @@ use Rattle.x86_opcode.specs.declared.FusedOpcode.TheVariants as fused
 use Rattle.x86_opcode.specs.declared.MarkedOpcode.{MarkedOpcode}
 use Rattle.x86_opcode.specs.declared.MarkedOpcode.TheVariants as marked
 use Rattle.x86_opcode.specs.declared.list.TheConstants.{ALL}
-use Rattle.x86_opcode.specs.Number.{opcode_number, legacy_number, integer_number, float_number, fused_number}
-use Rattle.x86_opcode.specs.Number.{marked_number}
+use Rattle.x86_opcode.specs.Number.{opcode_number, legacy_number, integer_number, float_number, fused_number, marked_number}
 
 legacy-listed : (o : LegacyOpcode) → slice_get ALL (2 + legacy_number o) ≡ Some (Legacy o)
 legacy-listed legacy.FEMMS = refl

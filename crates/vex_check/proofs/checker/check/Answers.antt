@@ -4,7 +4,7 @@ use Rattle.std.proofs.lemmas.List.{take_rest}
 use Rattle.x86_settings.specs.Bits.{is_set}
 use Rattle.x86_settings.specs.Sets.{exactly}
 use Rattle.x86_permit.specs.LeastSettings.{least}
-use Rattle.vex_encode.specs.Sweep.Laws.{are_bytes}
+use Rattle.vex_encode.specs.Sweep.Lemmas.{are_bytes}
 use Rattle.vex_check.specs.Accepted.{EndsWhereCovered, StopsAtLack, StopsAtLeastLack}
 use Rattle.vex_check.specs.Needs.{all_needed, firsts, run}
 use Rattle.vex_check.specs.FirstPlaces.{all_there, bits_there, noted}

@@ -1,7 +1,7 @@
 use Rattle.std.proofs.Common.{◌≡◌, Some, Err, Ok, ap, arith, refl, subst, sym, ◌∙◌}
 use Rattle.x86_settings.specs.Bits.{all_bits}
 use Rattle.vex_encode.specs.Sweep.{first_of_bytes}
-use Rattle.vex_encode.specs.Sweep.Laws.{are_bytes, first-blocked, first-spelled}
+use Rattle.vex_encode.specs.Sweep.Lemmas.{are_bytes, first-blocked, first-spelled}
 use Rattle.vex_check.specs.FirstPlaces.{cause_of}
 use Rattle.vex_check.proofs.Bits.{false-is-not-true}
 use Rattle.vex_check.proofs.Checking.{marked-unless, spelled-vex}

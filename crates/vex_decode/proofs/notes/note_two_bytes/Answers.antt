@@ -1,4 +1,4 @@
-use Rattle.x86_reader.specs.Sink.Laws.{Records-trans}
+use Rattle.x86_reader.specs.Sink.Lemmas.{Records-trans}
 use Rattle.vex_decode.proofs.NoteIs.{noted}
 use Rattle.vex_decode.proofs.notes.note_two_bytes.Goals as goal
 

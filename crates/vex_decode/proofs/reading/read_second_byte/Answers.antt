@@ -1,4 +1,4 @@
-use Rattle.x86_address.specs.Follows.Laws.{follows_ok}
+use Rattle.x86_address.specs.Follows.Lemmas.{follows_ok}
 use Rattle.vex_decode.proofs.Recording.{noting_silent, noting_seen, noting_fails, noting_noted}
 use Rattle.vex_decode.proofs.reading.read_second_byte.Goals as goal
 

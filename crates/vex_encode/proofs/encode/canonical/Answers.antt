@@ -2,7 +2,7 @@
 use Rattle.std.proofs.Common.{ap, sym, subst, ◌∙◌, flat_map}
 use Rattle.vex_rows.specs.Row.{Among, choices}
 use Rattle.vex_rows.specs.Entries.{entries_with}
-use Rattle.vex_rows.specs.Entries.Laws.{listed_entry}
+use Rattle.vex_rows.specs.Entries.Lemmas.{listed_entry}
 use Rattle.vex_encode.specs.Encode.{best}
 use Rattle.vex_encode.proofs.Search.{canon-best}
 use Rattle.vex_encode.proofs.encode.canonical.Goals as goal

@@ -1,6 +1,6 @@
 -- A group is a value of three bits, and one of another opcode has no row that can give the meaning.
 use Rattle.std.proofs.Common.{◌∙◌, if◌then◌else◌}
-use Rattle.vex_rows.specs.Groups.Laws.{small_group}
+use Rattle.vex_rows.specs.Groups.Lemmas.{small_group}
 use Rattle.vex_encode.proofs.PassedOver.{other_group_row}
 use Rattle.vex_encode.proofs.encode.standard_of_group.Goals as goal
 

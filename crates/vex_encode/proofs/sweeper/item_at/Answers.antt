@@ -1,6 +1,6 @@
 use Rattle.std.proofs.Common.{arith, refl}
 use Rattle.std.proofs.lemmas.Result.{err_from_is_err_and}
-use Rattle.vex_encode.specs.Sweep.Laws.{are_bytes, first-blocked, first-spelled}
+use Rattle.vex_encode.specs.Sweep.Lemmas.{are_bytes, first-blocked, first-spelled}
 use Rattle.vex_encode.proofs.sweeper.item_at.Goals as goal
 
 pub returns-in_err-instruction-clause-refused : goal.returns-in_err-instruction-clause-refused

@@ -1,4 +1,4 @@
-use Rattle.vex_forms.specs.Slots.Laws.{sound}
+use Rattle.vex_forms.specs.Slots.Lemmas.{sound}
 use Rattle.vex_forms.proofs.laws.slots_fit_steps.Goals as goal
 
 pub returns : goal.returns

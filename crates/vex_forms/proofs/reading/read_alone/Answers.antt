@@ -1,5 +1,5 @@
 use Rattle.std.proofs.Common.{refl}
-use Rattle.x86_address.specs.Follows.Laws.{follows_seen, follows_ok}
+use Rattle.x86_address.specs.Follows.Lemmas.{follows_seen, follows_ok}
 use Rattle.vex_forms.proofs.Operating.{absent}
 use Rattle.vex_forms.proofs.reading.read_alone.Goals as goal
 

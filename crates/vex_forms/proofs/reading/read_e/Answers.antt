@@ -1,5 +1,5 @@
 use Rattle.std.proofs.Common.{◌≡◌, ◌⊎◌, inl, inr, ◌/◌, ◌%◌, ◌+◌, ◌*◌, ap, arith, false}
-use Rattle.x86_address.specs.Follows.Laws.{follows_as, follows_ok, follows_answered}
+use Rattle.x86_address.specs.Follows.Lemmas.{follows_as, follows_ok, follows_answered}
 use Rattle.vex_forms.proofs.Operating.{in_register, in_memory, direct_step}
 use Rattle.vex_forms.proofs.reading.read_e.Goals.{then-not-has_address-via-then-not-has_address, then-not-has_address-via-else-not-has_address+then-modrm-eq3}
 use Rattle.vex_forms.proofs.reading.read_e.Goals as goal

@@ -1,4 +1,4 @@
-use Rattle.x86_address.specs.Follows.Laws.{over_slice}
+use Rattle.x86_address.specs.Follows.Lemmas.{over_slice}
 use Rattle.vex_forms.specs.Fields.{fields_of}
 use Rattle.vex_forms.proofs.Telling.{if_takes_form, if_fails_form, if_inside}
 use Rattle.vex_forms.proofs.reading.read_form.Goals as goal

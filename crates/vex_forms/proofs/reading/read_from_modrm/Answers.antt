@@ -1,5 +1,5 @@
 use Rattle.std.proofs.Common.{refl}
-use Rattle.x86_address.specs.Follows.Laws.{follows_seen, follows_then, follows_checked, fails_first, follows_ok, follows_decided}
+use Rattle.x86_address.specs.Follows.Lemmas.{follows_seen, follows_then, follows_checked, fails_first, follows_ok, follows_decided}
 use Rattle.vex_forms.proofs.reading.read_from_modrm.Goals as goal
 
 pub returns-in_err-e : goal.returns-in_err-e

@@ -1,4 +1,4 @@
-use Rattle.x86_address.specs.Follows.Laws.{follows_answered}
+use Rattle.x86_address.specs.Follows.Lemmas.{follows_answered}
 use Rattle.vex_forms.proofs.Instructing.{is_instruction}
 use Rattle.vex_forms.proofs.reading.read_instruction.Goals as goal
 

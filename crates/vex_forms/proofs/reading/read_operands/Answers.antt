@@ -1,7 +1,7 @@
 use Rattle.std.proofs.Common.{subst, Err}
 use Rattle.x86_operand.specs.Kind.{WithoutModRM}
 use Rattle.x86_address.specs.Follows.{Any, Decides}
-use Rattle.x86_address.specs.Follows.Laws.{fails_first, follows_decided}
+use Rattle.x86_address.specs.Follows.Lemmas.{fails_first, follows_decided}
 use Rattle.vex_rows.specs.Steps.{FormSteps}
 use Rattle.vex_forms.specs.Fields.{fields_of}
 use Rattle.vex_forms.specs.FormWalk.{check_all, walk_form}

@@ -1,7 +1,7 @@
 -- The entries of the opcode are enough.
 use Rattle.std.proofs.Common.{ap, subst, ◌∙◌, None}
 use Rattle.vex_rows.specs.Entries.{entries_with}
-use Rattle.vex_rows.specs.Entries.Laws.{listed_entry}
+use Rattle.vex_rows.specs.Entries.Lemmas.{listed_entry}
 use Rattle.vex_rows.specs.Row.{Among}
 use Rattle.vex_list.specs.Next.{Covers}
 use Rattle.vex_list.specs.Sets.{ByEntries}

@@ -5,7 +5,7 @@ use Rattle.vex_rows.specs.declared.entry.Entry.{Entry}
 use Rattle.vex_rows.specs.declared.key.Key.{Key}
 use Rattle.vex_rows.specs.Rules.{has_key}
 use Rattle.vex_rows.specs.Table.{table}
-use Rattle.vex_rows.specs.Table.Laws.{one_entry}
+use Rattle.vex_rows.specs.Table.Lemmas.{one_entry}
 use Rattle.vex_rows.specs.Row.{Among}
 use Rattle.vex_rows.specs.Row.Lists.{among-slice_get, find-only, no-find}
 use Rattle.vex_rows.proofs.entries.lookup.Goals as goal

@@ -1,4 +1,4 @@
-use Rattle.vex_rows.specs.Entries.Laws.{listed_entry, entry_row}
+use Rattle.vex_rows.specs.Entries.Lemmas.{listed_entry, entry_row}
 use Rattle.vex_rows.proofs.laws.entries_have_rows.Goals as goal
 
 pub returns : goal.returns

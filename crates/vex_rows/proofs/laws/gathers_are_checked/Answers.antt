@@ -1,4 +1,4 @@
-use Rattle.vex_rows.specs.Steps.Laws.{gathers_checked}
+use Rattle.vex_rows.specs.Steps.Lemmas.{gathers_checked}
 use Rattle.vex_rows.proofs.laws.gathers_are_checked.Goals as goal
 
 pub returns : goal.returns

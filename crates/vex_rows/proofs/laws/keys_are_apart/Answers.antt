@@ -1,4 +1,4 @@
-use Rattle.vex_rows.specs.Table.Laws.{one_entry}
+use Rattle.vex_rows.specs.Table.Lemmas.{one_entry}
 use Rattle.vex_rows.proofs.laws.keys_are_apart.Goals as goal
 
 pub returns : goal.returns

@@ -1,4 +1,4 @@
-use Rattle.vex_rows.specs.Entries.Laws.{row_entry}
+use Rattle.vex_rows.specs.Entries.Lemmas.{row_entry}
 use Rattle.vex_rows.proofs.laws.rows_have_entries.Goals as goal
 
 pub returns : goal.returns

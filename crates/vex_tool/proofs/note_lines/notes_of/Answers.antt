@@ -1,5 +1,5 @@
 use Rattle.std.proofs.Common.{arith}
-use Rattle.vex_encode.specs.Sweep.Laws.{are_bytes}
+use Rattle.vex_encode.specs.Sweep.Lemmas.{are_bytes}
 use Rattle.vex_tool.proofs.NoteLinesLemmas.{noted}
 use Rattle.vex_tool.proofs.note_lines.notes_of.Goals as goal
 

@@ -1,6 +1,6 @@
 use Rattle.x86_operand.specs.Kind.{InMemory}
 use Rattle.x86_address.proofs.Taken.{after_memory, if_spelled, if_exhausted, on_cut_short}
-use Rattle.x86_address.specs.Follows.Laws.{over_slice}
+use Rattle.x86_address.specs.Follows.Lemmas.{over_slice}
 use Rattle.x86_address.proofs.decode.read_address.Goals as goal
 
 pub returns-clause-spells : goal.returns-clause-spells

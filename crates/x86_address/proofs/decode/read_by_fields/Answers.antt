@@ -1,6 +1,6 @@
 use Rattle.std.proofs.Common.{◌≢◌, ◌⊎◌, inl, inr, ◌∙◌, ap, refl, rules, arith, ne_eqb, Some, FitsSigned, w32, to_z-of_z}
 use Rattle.x86_address.proofs.Naming.{not_both, names_rip, names_based}
-use Rattle.x86_address.specs.Follows.Laws.{follows_then, follows_ok, follows_false}
+use Rattle.x86_address.specs.Follows.Lemmas.{follows_then, follows_ok, follows_false}
 use Rattle.x86_address.proofs.decode.read_by_fields.Goals as goal
 
 pub returns-then-rm-eq5 : goal.returns-then-rm-eq5

@@ -1,6 +1,6 @@
 use Rattle.std.proofs.Common.{◌≢◌, ◌⊎◌, inl, inr, ◌%◌, ◌∙◌, ap, refl, rules, Some, FitsSigned, w32, to_z-of_z}
 use Rattle.x86_address.proofs.Naming.{not_both, names_scaled, names_baseless}
-use Rattle.x86_address.specs.Follows.Laws.{follows_seen, follows_then, fails_first, follows_ok}
+use Rattle.x86_address.specs.Follows.Lemmas.{follows_seen, follows_then, fails_first, follows_ok}
 use Rattle.x86_address.proofs.decode.read_by_sib.Goals.{else-mode-eq0-via-then-mode-eq0+else-sib-eq5}
 use Rattle.x86_address.proofs.decode.read_by_sib.Goals.{else-mode-eq0-via-else-mode-eq0}
 use Rattle.x86_address.proofs.decode.read_by_sib.Goals as goal

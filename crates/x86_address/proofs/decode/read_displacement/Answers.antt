@@ -1,7 +1,7 @@
 use Rattle.std.proofs.Common.{◌≢◌, arith, ne_eqb}
 use Rattle.std.proofs.lemmas.Int.{ints}
 use Rattle.x86_address.specs.Bytes.{Long}
-use Rattle.x86_address.specs.Follows.Laws.{follows_seen, follows_map, follows_ok, follows_false}
+use Rattle.x86_address.specs.Follows.Lemmas.{follows_seen, follows_map, follows_ok, follows_false}
 use Rattle.x86_address.proofs.decode.read_displacement.Goals as goal
 
 pub returns-in_ok-read_byte-in-1 : goal.returns-in_ok-read_byte-in-1

@@ -1,5 +1,5 @@
 use Rattle.std.proofs.Common.{◌∙◌, ap, arith, rules, FitsSigned, w32, to_z, to_z-of_z}
-use Rattle.x86_address.specs.Follows.Laws.{follows_seen, fails_first, follows_ok}
+use Rattle.x86_address.specs.Follows.Lemmas.{follows_seen, fails_first, follows_ok}
 use Rattle.x86_address.proofs.decode.read_doubleword.Goals as goal
 
 pub returns-in_err-second : goal.returns-in_err-second

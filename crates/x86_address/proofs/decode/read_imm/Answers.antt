@@ -1,5 +1,5 @@
 use Rattle.x86_address.proofs.Taken.{if_taken, if_byte_refused, on_byte_refused}
-use Rattle.x86_address.specs.Follows.Laws.{over_slice}
+use Rattle.x86_address.specs.Follows.Lemmas.{over_slice}
 use Rattle.x86_address.proofs.decode.read_imm.Goals as goal
 
 pub returns-clause-taken : goal.returns-clause-taken

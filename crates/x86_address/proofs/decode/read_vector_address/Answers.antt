@@ -1,6 +1,6 @@
 use Rattle.x86_operand.specs.Kind.{VectorIndexed}
 use Rattle.x86_address.proofs.Taken.{after_vector, if_spelled, if_exhausted, on_cut_short, placed_sib}
-use Rattle.x86_address.specs.Follows.Laws.{over_slice}
+use Rattle.x86_address.specs.Follows.Lemmas.{over_slice}
 use Rattle.x86_address.proofs.decode.read_vector_address.Goals as goal
 
 pub returns-clause-follows : goal.returns-clause-follows

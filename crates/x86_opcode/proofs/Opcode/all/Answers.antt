@@ -1,5 +1,5 @@
 use Rattle.x86_opcode.specs.Number.Listed.{listed}
-use Rattle.x86_opcode.specs.Number.Laws.{place_is_number}
+use Rattle.x86_opcode.specs.Number.Lemmas.{place_is_number}
 use Rattle.x86_opcode.proofs.Opcode.all.Goals as goal
 
 pub returns-clause-each : goal.returns-clause-each

@@ -1,5 +1,5 @@
 use Rattle.std.proofs.Common.{◌≡◌, ◌∙◌, true, false, sym, rules}
-use Rattle.x86_opcode.specs.Vex.Laws.{vex_part_tells}
+use Rattle.x86_opcode.specs.Vex.Lemmas.{vex_part_tells}
 use Rattle.x86_opcode.specs.Vex.Parts.{vex_part, is_vex-vex_part}
 use Rattle.x86_opcode.proofs.Opcode.is_vex.Goals as goal
 

@@ -1,7 +1,7 @@
 -- Names tell opcodes apart, so an opcode of the name that was answered is the one asked for.
 use Rattle.std.proofs.Common.{◌∙◌, ap, sym}
 use Rattle.x86_opcode.specs.Name.{opcode_name}
-use Rattle.x86_opcode.specs.Slots.Laws.{opcode_name_injective}
+use Rattle.x86_opcode.specs.Slots.Lemmas.{opcode_name_injective}
 use Rattle.x86_opcode.proofs.Opcode.name.Goals as goal
 
 pub returns-in-Legacy-clause-distinct : goal.returns-in-Legacy-clause-distinct

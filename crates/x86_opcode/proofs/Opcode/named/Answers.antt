@@ -3,7 +3,7 @@ use Rattle.std.proofs.Common.{◌≡◌, ◌∙◌, ap, sym, Some, false, true, 
 use Rattle.std.proofs.lemmas.Slice.Eq.{bytes_eq-Decides}
 use Rattle.x86_opcode.specs.Name.{opcode_name}
 use Rattle.x86_opcode.specs.Slots.{slot, opcode_at}
-use Rattle.x86_opcode.specs.Slots.Laws.{name_found}
+use Rattle.x86_opcode.specs.Slots.Lemmas.{name_found}
 use Rattle.x86_opcode.proofs.Opcode.named.Goals as goal
 
 differ : (xs ys : List ℕ) → xs ≡ ys → false ≡ bytes_eq xs ys → ⊥

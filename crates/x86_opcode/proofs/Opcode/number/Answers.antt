@@ -4,7 +4,7 @@ use Rattle.x86_opcode.specs.declared.Opcode.{Opcode}
 use Rattle.x86_opcode.specs.declared.list.TheConstants.{FIRST_LEGACY, FIRST_INTEGER, FIRST_FLOAT, FIRST_FUSED}
 use Rattle.x86_opcode.specs.declared.list.TheConstants.{FIRST_MARKED}
 use Rattle.x86_opcode.specs.Number.{opcode_number}
-use Rattle.x86_opcode.specs.Number.Laws.{opcode_number_injective}
+use Rattle.x86_opcode.specs.Number.Lemmas.{opcode_number_injective}
 use Rattle.x86_opcode.proofs.Tags.{legacy_tag, integer_tag, float_tag, fused_tag, marked_tag}
 use Rattle.x86_opcode.proofs.Opcode.number.Goals as goal
 

@@ -1,5 +1,5 @@
 use Rattle.std.specs.Bool.{one_answer}
-use Rattle.x86_operand.specs.Same.Laws.{same_address_decides}
+use Rattle.x86_operand.specs.Same.Lemmas.{same_address_decides}
 use Rattle.x86_operand.proofs.address.AddressPartialEq.TheImpl.Goals as goal
 
 pub eq-tells : goal.eq-tells

@@ -1,5 +1,5 @@
 use Rattle.std.specs.Bool.{one_answer}
-use Rattle.x86_operand.specs.Same.Laws.{same_decoded_decides}
+use Rattle.x86_operand.specs.Same.Lemmas.{same_decoded_decides}
 use Rattle.x86_operand.proofs.instruction.InstructionPartialEq.TheImpl.Goals as goal
 
 pub eq-tells : goal.eq-tells

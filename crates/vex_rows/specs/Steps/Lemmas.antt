@@ -4,7 +4,7 @@ use Rattle.vex_rows.specs.declared.form.Form.{Form}
 use Rattle.vex_rows.specs.declared.form.Form.TheVariants.{Nothing}
 use Rattle.vex_rows.specs.FormRows.{form_row, gathers}
 use Rattle.vex_rows.specs.Steps.{steps}
-use Rattle.vex_rows.specs.Tests.{is_orderly, checks_address}
+use Rattle.vex_rows.specs.WellFormed.{is_orderly, checks_address}
 
 pub orderly : (form : Form) → is_orderly (steps form) ≡ true
 unfolding steps form_row

@@ -6,7 +6,7 @@ use Rattle.std.proofs.lemmas.Map.Views.{list_any-from_Contains, Contains-from_an
 use Rattle.x86_opcode.specs.declared.Opcode.{Opcode}
 use Rattle.x86_opcode.specs.Number.{opcode_number, same_opcode}
 use Rattle.x86_opcode.specs.Vex.{is_vex, vex_opcodes}
-use Rattle.x86_opcode.specs.Number.Laws.{same_opcode_equal}
+use Rattle.x86_opcode.specs.Number.Lemmas.{same_opcode_equal}
 use Rattle.x86_opcode.specs.Vex.Parts.{vex_part, is_vex-vex_part}
 
 -- the test of opcodes is an equivalence

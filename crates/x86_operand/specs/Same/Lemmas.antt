@@ -9,7 +9,7 @@ use Rattle.std.specs.Cmp.Derive.Mapped.{pointwise-map}
 use Rattle.std.specs.Cmp.Lexicographic.{pointwise, pointwise_decides}
 use Rattle.std.specs.Option.{option_eq}
 use Rattle.std.specs.Ordering.{on}
-use Rattle.x86_opcode.specs.Number.Laws.{same_opcode_equal, same_opcode_refl}
+use Rattle.x86_opcode.specs.Number.Lemmas.{same_opcode_equal, same_opcode_refl}
 use Rattle.x86_operand.specs.declared.address.Address.{Address}
 use Rattle.x86_operand.specs.declared.address.Index.{Index}
 use Rattle.x86_operand.specs.declared.address.Operand.{Operand}

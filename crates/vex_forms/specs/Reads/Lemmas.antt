@@ -9,7 +9,7 @@ use Rattle.vex_rows.specs.declared.key.Pp.{Pp}
 use Rattle.vex_rows.specs.declared.key.Pp.TheVariants.{Plain, Prefix66, PrefixF3, PrefixF2}
 use Rattle.vex_rows.specs.declared.key.Prefix.{Prefix}
 use Rattle.vex_rows.specs.Rules.{has_key, map_number, pp_number}
-use Rattle.vex_rows.specs.Table.Laws.{from-has_key}
+use Rattle.vex_rows.specs.Table.Lemmas.{from-has_key}
 use Rattle.vex_forms.specs.Fields.{fields_of}
 use Rattle.vex_forms.specs.Reads.{HasPrefix}
 

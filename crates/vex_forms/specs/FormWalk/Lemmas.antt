@@ -7,7 +7,7 @@ use Rattle.std.proofs.lemmas.Bool.{eqb-true}
 use Rattle.x86_operand.specs.Kind.{Kind, WithoutModRM, InRegister, InMemory, memory_kind}
 use Rattle.x86_address.specs.Bytes.{IsBytes}
 use Rattle.x86_address.specs.Most.{TakesAtMost}
-use Rattle.x86_address.specs.Most.Laws.{most_none, most_refused, most_then, most_if, most_wider, most_byte, most_place}
+use Rattle.x86_address.specs.Most.Lemmas.{most_none, most_refused, most_then, most_if, most_wider, most_byte, most_place}
 use Rattle.x86_address.specs.Place.{Place, NoPlace, Direct, Based, RipBased, IsPlace, kind_of, IsOfKind, place_bytes}
 use Rattle.x86_address.specs.Laws.{ReadingIsSpelling}
 use Rattle.x86_address.specs.Reading.{Reading, ◌>>=◌, take_byte, take_doubleword, take_displacement, take_baseless, take_scaled, take_sib, take_place}
@@ -20,13 +20,13 @@ use Rattle.vex_rows.specs.FormRows.{gathers}
 use Rattle.vex_rows.specs.Steps.{FormSteps, steps}
 use Rattle.vex_rows.specs.Groups.{groups}
 use Rattle.vex_rows.specs.Row.{Among, kinds_of, has_groups, is_group, is_register, is_memory_of, group_allowed, permits_choice, exists}
-use Rattle.vex_rows.specs.Tests.{is_prefix_check, is_modrm_check, is_late_check, is_register_check, is_memory_check, is_none, checks_address}
+use Rattle.vex_rows.specs.WellFormed.{is_prefix_check, is_modrm_check, is_late_check, is_register_check, is_memory_check, is_none, checks_address}
 use Rattle.vex_rows.specs.Row.Lists.{both-parts, parts-both, from-list_all, list_all-each, among-append}
-use Rattle.vex_rows.specs.Row.Laws.{checks_of}
-use Rattle.vex_rows.specs.Steps.Laws.{orderly, gathers_checked}
+use Rattle.vex_rows.specs.Row.Lemmas.{checks_of}
+use Rattle.vex_rows.specs.Steps.Lemmas.{orderly, gathers_checked}
 use Rattle.vex_forms.specs.Fields.{Fields}
 use Rattle.vex_forms.specs.FormWalk.{passes, refusal, check_all, kind_of_modrm, kind_by, take_imm, Operands, place_by, walk_modrm, walk_alone, walk_form, row_of}
-use Rattle.vex_forms.specs.Layout.Laws.{is_register-memory_kind, plain-memory_kind, vector_kind}
+use Rattle.vex_forms.specs.Layout.Lemmas.{is_register-memory_kind, plain-memory_kind, vector_kind}
 use Rattle.vex_forms.specs.Written.{imm_bytes, FitsReg, FitsImm}
 
 -- ---- what a walk has passed

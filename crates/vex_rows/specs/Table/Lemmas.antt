@@ -10,7 +10,7 @@ use Rattle.vex_rows.specs.declared.key.Key.{Key}
 use Rattle.vex_rows.specs.Rules.{has_key, allows, map_number, pp_number}
 use Rattle.vex_rows.specs.Table.{table}
 use Rattle.vex_rows.specs.Row.{Among}
-use Rattle.vex_rows.specs.Tests.{agree, share_key, clashes, large_bytes}
+use Rattle.vex_rows.specs.WellFormed.{agree, share_key, clashes, large_bytes}
 use Rattle.vex_rows.specs.Row.Lists.{both-parts, parts-both, among-filter, none-append, none-map}
 
 -- no two entries have a key in common

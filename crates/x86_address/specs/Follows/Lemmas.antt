@@ -8,7 +8,7 @@ use Rattle.std.specs.Io.KnownBytes.{prepend_known}
 use Rattle.x86_operand.specs.declared.error.DecodeError.{DecodeError}
 use Rattle.x86_operand.specs.declared.error.DecodeError.TheVariants.{ExhaustedInput}
 use Rattle.x86_reader.specs.Reader.{ReaderState, Takes, Stops, Passes, ChangesOnlyCount, CountsRefusal}
-use Rattle.x86_reader.specs.Reader.Laws.{Passes-none, Passes-trans, Passes-refused, Stops-slice}
+use Rattle.x86_reader.specs.Reader.Lemmas.{Passes-none, Passes-trans, Passes-refused, Stops-slice}
 use Rattle.x86_reader.specs.SliceReader.{slice_state}
 use Rattle.x86_address.specs.Reading.{Reading, ◌>>=◌, take_byte}
 use Rattle.x86_address.specs.Most.{left_by, TakesAtMost}

@@ -11,7 +11,7 @@ use Rattle.std.proofs.lemmas.Bool.{leb-true}
 use Rattle.vex_rows.specs.Row.Lists.{both-parts}
 use Rattle.vex_forms.specs.declared.slot.VvvvRule.TheVariants.{Named, Zero, Free}
 use Rattle.vex_forms.specs.Slots.{slots, slots_of, names_g, names_v, demands_v, v_rule}
-use Rattle.vex_forms.specs.Tests.{is_sound, is_distinct, is_free, immediates, has_few}
+use Rattle.vex_forms.specs.WellFormed.{is_sound, is_distinct, is_free, immediates, has_few}
 
 -- by the kind of a row, on which the slots of some forms depend
 by_kind : (test : Kind → Bool) → test WithoutModRM ≡ true → test InRegister ≡ true → test InMemory ≡ true → test VectorIndexed ≡ true → (kind : Kind) → test kind ≡ true

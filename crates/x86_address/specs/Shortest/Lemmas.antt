@@ -15,7 +15,7 @@ use Rattle.x86_address.specs.Bytes.{displacement_value}
 use Rattle.x86_address.specs.Place.{Place, NoPlace, Direct, Based, RipBased, Scaled, Baseless, MayBeBase, IsPlace}
 use Rattle.x86_address.specs.Place.{kind_of, has_sib, place_bytes, Base, NoBase, Rip, Numbered, PlainAddress, Target}
 use Rattle.x86_address.specs.Place.{NoTarget, Number, At, kind_of_target, index_of, target}
-use Rattle.x86_address.specs.Bytes.Laws.{displacement_length}
+use Rattle.x86_address.specs.Bytes.Lemmas.{displacement_length}
 use Rattle.x86_address.specs.Shortest.{plain, plain_base, plain_index, in_banks, base_register, index_register}
 use Rattle.x86_address.specs.Shortest.{doubleword_of, shortest_displacement, exponent_of, exponent_field, index_field}
 use Rattle.x86_address.specs.Shortest.{has_index, place_of_numbered, place_of_base, shortest, is_upper, x_of_index}

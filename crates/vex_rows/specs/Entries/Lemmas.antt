@@ -8,7 +8,7 @@ use Rattle.vex_rows.specs.Entries.{rows_of, has_opcode, entries_with}
 use Rattle.vex_rows.specs.Row.{Row, Among, IsRow, choices, exists, opcode_of, rows}
 use Rattle.vex_rows.specs.Table.{table}
 use Rattle.vex_rows.specs.Row.Lists.{among-filter, from-filter, among-flat_map, from-flat_map, filter-flat_map, any-among, from-any, none-any}
-use Rattle.vex_rows.specs.Row.Laws.{choices-entry}
+use Rattle.vex_rows.specs.Row.Lemmas.{choices-entry}
 
 -- all rows are those of the entries, one entry after another
 pub rows_by_entry : rows ≡ flat_map rows_of table

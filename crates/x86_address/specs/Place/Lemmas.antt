@@ -2,8 +2,8 @@
 use Rattle.std.proofs.Common.{◌≡◌, ◌≢◌, ◌⊎◌, inl, inr, true, ℕ, ◌+◌, ◌*◌, ◌<◌, ◌≤◌, [], ◌∷◌, length, refl, arith}
 use Rattle.x86_operand.specs.Kind.{Kind, WithoutModRM, InRegister, InMemory, VectorIndexed, is_vector, plain_kind}
 use Rattle.x86_address.specs.Bytes.{IsBytes, Displacement, Absent, Short, Long}
-use Rattle.x86_address.specs.Bytes.Laws.{packed_below, IsBytes-doubleword_bytes, IsBytes-displacement_bytes}
-use Rattle.x86_address.specs.Bytes.Laws.{displacement_length}
+use Rattle.x86_address.specs.Bytes.Lemmas.{packed_below, IsBytes-doubleword_bytes, IsBytes-displacement_bytes}
+use Rattle.x86_address.specs.Bytes.Lemmas.{displacement_length}
 use Rattle.x86_address.specs.Place.{Place, NoPlace, Direct, Based, RipBased, Scaled, Baseless, IsPlace, kind_of}
 use Rattle.x86_address.specs.Place.{has_sib, mod_of_displacement, mod_of, rm_of, tail_of, place_bytes}
 

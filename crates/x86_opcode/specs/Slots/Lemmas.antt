@@ -6,7 +6,7 @@ use Rattle.x86_opcode.specs.declared.list.TheConstants.{ALL}
 use Rattle.x86_opcode.specs.Name.{opcode_name}
 use Rattle.x86_opcode.specs.Number.{opcode_number, same_opcode}
 use Rattle.x86_opcode.specs.Number.Listed.{listed}
-use Rattle.x86_opcode.specs.Number.Laws.{same_opcode_equal}
+use Rattle.x86_opcode.specs.Number.Lemmas.{same_opcode_equal}
 use Rattle.x86_opcode.specs.Slots.{slot, shift_at, opcode_at}
 
 -- whether each opcode stands on the slot of its name
