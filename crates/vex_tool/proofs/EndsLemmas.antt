@@ -2,8 +2,9 @@
 use Rattle.std.proofs.Common.{◌≡◌, ℕ, List, [], ◌++◌, length, take, drop, Option, Some, None, Result, Ok, Err, sym, ap, subst, refl, ◌∙◌}
 use Rattle.std.proofs.lemmas.List.{append-nil, append_assoc, nil_from_length, take-append-drop}
 use Rattle.std.specs.Io.KnownBytes.{Appends, Consumes, Keeps}
+use Rattle.std.specs.Prelude.{OnOk, OnErr}
 use Rattle.vex_tool.specs.declared.halt.Halt.{Halt}
-use Rattle.vex_tool.specs.declared.halt.Halt.TheVariants.{WriteFault}
+use Rattle.vex_tool.specs.declared.halt.Halt.TheVariants.{WriteFault, NoMemory}
 use Rattle.vex_tool.specs.Ends.{Answers, AppendsFront, RoseOrIsLast, WhereTaken, Writes}
 
 -- ---- what is written
@@ -42,6 +43,14 @@ Appends-keeps None mid new a h k = tt
 Appends-keeps (Some xs) None new a h k = absurd h
 Appends-keeps (Some xs) (Some ys) None a h k = absurd k
 Appends-keeps (Some xs) (Some ys) (Some zs) a h k = k ∙ h
+
+pub AppendsFront-keeps : (old mid new : Option (List ℕ)) (a : List ℕ) → AppendsFront old mid a → Keeps mid new → AppendsFront old new a
+AppendsFront-keeps old mid new a h k = record {
+  front = h.front;
+  back = h.back;
+  split = h.split;
+  appended = Appends-keeps old mid new h.front h.appended k;
+}
 
 -- a front of a text that was appended to told bytes
 pub AppendsFront-take : (old new text : List ℕ) (n : ℕ) → new ≡ old ++ take n text → AppendsFront (Some old) (Some new) text
@@ -102,6 +111,19 @@ Writes-then (Err e) old mid new before between after a b first quiet then = reco
   quiet = tt;
   front = AppendsFront-then old mid new a b first then.front;
   cause = subst (λ n. RoseOrIsLast n after) quiet then.cause;
+}
+
+-- a text was written, and then handed on or not
+pub Writes-handed_on : {T E : Type 0} (result : Result T E) (old mid new : Option (List ℕ)) (before between after : ℕ) (text : List ℕ)
+    → Appends old mid text → between ≡ before → Keeps mid new → OnOk result (after ≡ between) → OnErr result (RoseOrIsLast between after)
+    → Writes result old new before after text
+Writes-handed_on (Ok x) old mid new before between after text written same keeps quiet cause =
+    record { appends = Appends-keeps old mid new text written keeps; quiet = quiet ∙ same; front = tt; cause = tt }
+Writes-handed_on (Err e) old mid new before between after text written same keeps quiet cause = record {
+  appends = tt;
+  quiet = tt;
+  front = AppendsFront-all old new text (Appends-keeps old mid new text written keeps);
+  cause = subst (λ n. RoseOrIsLast n after) same cause;
 }
 
 -- ---- texts written where memory may lack
@@ -174,3 +196,13 @@ Writing-kept text rest old now new w kept =
 pub Writing-none : (text rest : List ℕ) (old now new : Option (List ℕ)) → Writing text rest old now → Appends now new [] → AppendsFront old new text
 Writing-none text rest old now new w none =
     record { front = w.front; back = rest; split = w.split; appended = rw append-nil at (Appends-then old now new w.front [] w.appended none) }
+
+-- a text was written, and then handed on or not
+pub Answers-handed_on : (P : List ℕ → Type 0) (result : Result (Unit {0}) Halt) (old mid new : Option (List ℕ)) (before between after : ℕ) (text : List ℕ)
+    → Appends old mid text → between ≡ before → Answers (λ _. ⊥) result mid new between after [] → Answers P result old new before after text
+Answers-handed_on P (Ok x) old mid new before between after text written same h =
+    Answers-all P (Ok x) x old new before after text refl (rw append-nil at (Appends-then old mid new text [] written h.appends)) (h.quiet ∙ same)
+Answers-handed_on P (Err WriteFault) old mid new before between after text written same h =
+    Answers-fault P old new before after text
+    (rw append-nil at (AppendsFront-then old mid new text [] written (h.front refl))) (subst (λ n. RoseOrIsLast n after) same (h.cause refl))
+Answers-handed_on P (Err NoMemory) old mid new before between after text written same h = absurd (h.lacked refl).1

@@ -1,12 +1,12 @@
 -- A piece of the input, byte by byte.
-use Rattle.std.proofs.Common.{◌≡◌, ℕ, ◌+◌, ◌<◌, List, [], ◌∷◌, ◌++◌, length, get_or, take, drop, Option, Err, append_assoc, sym, subst, ap, ◌∙◌, refl}
+use Rattle.std.proofs.Common.{◌≡◌, ℕ, ◌+◌, ◌<◌, List, [], ◌∷◌, ◌++◌, length, get_or, take, drop, Option, Err, append_assoc, sym, subst, ap, ◌∙◌, refl, inl, inr}
 use Rattle.std.specs.Prelude.{IsSomeAnd}
 use Rattle.std.proofs.lemmas.List.{append-nil, take-append-drop, take_more}
-use Rattle.std.specs.Io.KnownBytes.{Appends}
+use Rattle.std.specs.Io.KnownBytes.{Appends, Keeps}
 use Rattle.vex_tool.specs.declared.halt.Halt.{Halt}
-use Rattle.vex_tool.specs.Ends.{Answers, AppendsFront}
+use Rattle.vex_tool.specs.Ends.{Answers, AppendsFront, IsStopped, RoseOrIsLast}
 use Rattle.vex_tool.specs.LineMachine.{EndedBefore, stepped, line_after, ended_at, ended}
-use Rattle.vex_tool.proofs.EndsLemmas.{Appends-none, Appends-then, AppendsFront-then, AppendsFront-more}
+use Rattle.vex_tool.proofs.EndsLemmas.{Answers-fault, Appends-keeps, Appends-none, Appends-then, AppendsFront-keeps, AppendsFront-then, AppendsFront-more}
 use Rattle.vex_tool.proofs.LineMachineLemmas.{line_after-append, line_after-one, ended-append, ended-one}
 
 -- what a sink tells: its bytes and its count of faults
@@ -76,6 +76,41 @@ module _ (f : List ℕ → List ℕ) (P : List ℕ → Type 0) (first : Option (
         );
     lacked_quiet = λ is. h.lacked_quiet is ∙ fed.quiet;
   }
+
+-- what was written before a line that there was no memory for is a front of what all lines give
+ended-before : (f : List ℕ → List ℕ) (P : List ℕ → Type 0) (line : Option (List ℕ)) (piece written : List ℕ) → EndedBefore f P line piece written
+    → (back : List ℕ) × (ended f line piece ≡ written ++ back)
+ended-before f P line piece written h = (
+  ended f (line_after line h.front) (10 ∷ h.rest),
+  ap (ended f line) h.split ∙ ended-append f line h.front (10 ∷ h.rest)
+      ∙ ap (λ t. t ++ ended f (line_after line h.front) (10 ∷ h.rest)) (sym h.gives),
+)
+
+-- the answers before a line that there was no memory for were handed on, or that failed
+pub Fed-stopped-handed_on : (f : List ℕ → List ℕ) (P : List ℕ → Type 0) (line : Option (List ℕ)) (piece : List ℕ) (halt result : Halt)
+    (old mid new : Option (List ℕ)) (before between after : ℕ)
+    → Answers (λ written. EndedBefore f P line piece written) (Err halt) old mid before between (ended f line piece)
+    → Keeps mid new → IsStopped halt result between after
+    → Answers (λ written. EndedBefore f P line piece written) (Err result) old new before after (ended f line piece)
+Fed-stopped-handed_on f P line piece halt result old mid new before between after h keeps (inl same) = record {
+  appends = tt;
+  quiet = tt;
+  front = λ is. AppendsFront-keeps old mid new _ (h.front (ap Err (sym same.0) ∙ is)) keeps;
+  cause = λ is. subst (λ n. RoseOrIsLast before n) (sym same.1) (h.cause (ap Err (sym same.0) ∙ is));
+  lacked = λ is.
+      let lacked = h.lacked (ap Err (sym same.0) ∙ is) in
+      (lacked.0, lacked.1, Appends-keeps old mid new lacked.0 lacked.2 keeps);
+  lacked_quiet = λ is. same.1 ∙ h.lacked_quiet (ap Err (sym same.0) ∙ is);
+}
+Fed-stopped-handed_on f P line piece halt result old mid new before between after h keeps (inr failed) =
+    let is = ap Err failed.0 in
+    let lacked = h.lacked is in
+    let written = Appends-keeps old mid new lacked.0 lacked.2 keeps in
+    let cause = subst (λ n. RoseOrIsLast n after) (h.lacked_quiet is) failed.2 in
+    let front = ended-before f P line piece lacked.0 lacked.1 in
+    rw (failed.1)
+    (Answers-fault _ old new before after (ended f line piece)
+    (record { front = lacked.0; back = front.0; split = front.1; appended = written }) cause)
 
 -- a list round its element at i
 pub split_at : (xs : List ℕ) (i : ℕ) → i < length xs → xs ≡ (take i xs ++ get_or xs i 0 ∷ []) ++ drop (i + 1) xs

@@ -13,7 +13,7 @@ use Rattle.vex_tool.specs.Lines.{lines, whole}
 use Rattle.vex_tool.specs.LineMachine.{EndedBefore, line_after, ended, last}
 use Rattle.vex_tool.specs.Run.{Moment, Ran, input_limit}
 use Rattle.vex_tool.specs.Status.{status_of_halt}
-use Rattle.vex_tool.proofs.EndsLemmas.{Appends-none, Appends-then, AppendsFront-then, AppendsFront-more, Consumes-none, Consumes-then, Consumes-keeps}
+use Rattle.vex_tool.proofs.EndsLemmas.{Appends-keeps, Appends-none, Appends-then, AppendsFront-all, AppendsFront-then, AppendsFront-more, Consumes-none, Consumes-then, Consumes-keeps}
 use Rattle.vex_tool.proofs.LineMachineLemmas.{SameForLong, begun-is, begun_line, ended-append, ended_lines, line_after-append, lines-ended, lines-last, output-ended, output-ended_lines, output-whole}
 
 -- between two reads: what was taken so far, how much room there is to the limit, and what is kept of the
@@ -53,6 +53,21 @@ module _ (f : List ℕ → List ℕ) (before : Moment) where
     written = Appends-none before.text;
     source_quiet = refl;
     sink_quiet = refl;
+  }
+
+  -- what the sink held back was handed on
+  pub Going-handed_on : (line : Option (List ℕ)) (room : ℕ) (now : Moment) (text : Option (List ℕ)) (faults : ℕ) → Going f before line room now
+      → Keeps now.text text → faults ≡ now.sink_faults → Going f before line room (record now { text = text; sink_faults = faults })
+  Going-handed_on line room now text faults going keeps quiet = record {
+    front = going.front;
+    taken = going.taken;
+    start = going.start;
+    number = going.number;
+    to_limit = going.to_limit;
+    kept = going.kept;
+    written = Appends-keeps before.text now.text text _ going.written keeps;
+    source_quiet = going.source_quiet;
+    sink_quiet = quiet ∙ going.sink_quiet;
   }
 
   module _ (P : List ℕ → Type 0) (line : Option (List ℕ)) (room : ℕ) (now : Moment) (going : Going f before line room now) where
@@ -126,6 +141,12 @@ module _ (f : List ℕ → List ℕ) (before : Moment) where
         → Appends before.text text (flat_map f (lines (whole going.front)))
     whole-written text long written = rw (output-whole f long going.front) written
 
+    -- what all lines give, of which the last has no end
+    output-going : SameForLong f → flat_map f (lines going.front) ≡ ended f (Some []) going.front ++ last f line
+    output-going long =
+        output-ended f long going.front
+        ∙ ap (λ k. ended f (Some []) going.front ++ last f k) (sym going.kept)
+
     pub Ran-read_fault : SameForLong f → (left : Option (List ℕ)) (given faults : ℕ)
         → Keeps now.left left → given ≡ now.given → RoseOrIsLast now.source_faults faults
         → Ran f P ReadFault before (record now { left = left; given = given; source_faults = faults })
@@ -141,6 +162,24 @@ module _ (f : List ℕ → List ℕ) (before : Moment) where
             written = whole-written now.text long going.written;
             cause = rw going.source_quiet at cause;
             sink_quiet = going.sink_quiet;
+          };
+        }
+
+    pub Ran-flush_fault : SameForLong f → (text : Option (List ℕ)) (faults : ℕ) → Keeps now.text text → RoseOrIsLast now.sink_faults faults
+        → Ran f P WriteFault before (record now { text = text; sink_faults = faults })
+    Ran-flush_fault long text faults keeps cause =
+        let limit = going.to_limit in
+        record {
+          bytes = going.front;
+          taken = going.taken;
+          number = going.number;
+          at_most = number-at_most;
+          ends = record {
+            within = omega arith;
+            written = rw (output-going long)
+                (AppendsFront-more before.text text _ _ (AppendsFront-all before.text text _ (Appends-keeps before.text now.text text _ going.written keeps)));
+            source_quiet = going.source_quiet;
+            cause = rw going.sink_quiet at cause;
           };
         }
 
@@ -162,12 +201,6 @@ module _ (f : List ℕ → List ℕ) (before : Moment) where
             sink_quiet = gave.sink_quiet ∙ going.sink_quiet;
           };
         }
-
-    -- what all lines give, of which the last has no end
-    output-going : SameForLong f → flat_map f (lines going.front) ≡ ended f (Some []) going.front ++ last f line
-    output-going long =
-        output-ended f long going.front
-        ∙ ap (λ k. ended f (Some []) going.front ++ last f k) (sym going.kept)
 
     taken-none : (mid : Moment) → Gave [] now mid → Consumes before.left mid.left going.front
     taken-none mid gave = rw append-nil at (taken-more [] mid gave)

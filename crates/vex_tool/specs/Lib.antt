@@ -2,6 +2,7 @@ pub mod Ends
 pub mod MemoryEnds
 pub mod Status
 pub mod StdEnds
+pub mod Gatherer
 pub mod Lines
 pub mod Command
 pub mod ErrorLine

@@ -3,12 +3,14 @@
 
 ghost use Rattle.std.specs.Prelude.{None};
 
-use crate::ends::{Failed, Source};
+use crate::ends::{Failed, Sink, Source};
+use crate::gatherer::Gatherer;
 use crate::memory_ends::{MemSink, MemSource};
 use crate::status::Status;
 use crate::std_ends::{StdSink, StdSource};
 use crate::words::Words;
 use crate::{push_arguments, run};
+use arrayvec::ArrayVec;
 use std::env::{Env, FillError};
 use std::io::{self, ErrorKind, Read, Write};
 use std::test::Fail;
@@ -57,13 +59,15 @@ impl Read for OddReader<'_> {
     }
 }
 
-// Takes at most so many bytes a call, and fails once.
+// Takes at most so many bytes a call. One of its writes fails, or one of its flushes.
 #[derive(Drop)]
 struct SlowWriter<'a> {
     out: &'a mut Vec<u8>,
     most: usize,
     call: usize,
     failing: usize,
+    flushes: usize,
+    failing_flush: usize,
 }
 
 impl<'a> SlowWriter<'a> {
@@ -73,6 +77,8 @@ impl<'a> SlowWriter<'a> {
             most,
             call: 0,
             failing,
+            flushes: 0,
+            failing_flush: NEVER,
         }
     }
 }
@@ -90,6 +96,11 @@ impl Write for SlowWriter<'_> {
     }
 
     fn flush(&mut self) -> io::Result<()> {
+        let flush = self.flushes;
+        self.flushes = flush.saturating_add(1);
+        if flush == self.failing_flush {
+            return Err(io::Error::from(ErrorKind::Interrupted));
+        }
         Ok(())
     }
 }
@@ -184,6 +195,147 @@ fn a_write_that_failed_is_not_tried_again(rt: HostRuntime) -> Result<(), Fail> {
         assert_eq!(rt; out.as_slice(), text.as_bytes(), "at {failing}");
     }
     Ok(())
+}
+
+#[test]
+fn a_flush_that_failed_is_not_tried_again(rt: HostRuntime) -> Result<(), Fail> {
+    // Which flush fails, how many reads there are, and what is written. The fourth read finds the end.
+    let cases = [
+        (0, 0, ""),
+        (1, 1, "error Outside\n"),
+        (3, 3, "error Outside\nerror Outside\nerror Outside\n"),
+        (4, 4, "error Outside\nerror Outside\nerror Outside\n"),
+    ];
+    for (failing, reads, text) in cases {
+        let mut out = Vec::new(rt.alloc());
+        let mut source = MemSource::new(b"33\n33\n33\n", 3, &[]);
+        let mut writer = SlowWriter::new(&mut out, NEVER, NEVER);
+        writer.failing_flush = failing;
+        let status = run(
+            rt.alloc(),
+            &recode_default(),
+            &mut source,
+            &mut StdSink::new(&mut writer),
+        );
+        assert_eq!(rt; status.code(), 3, "at {failing}");
+        assert_eq!(rt; writer.flushes, failing + 1, "at {failing}");
+        assert_eq!(rt; writer.call, reads.min(3), "at {failing}");
+        assert_eq!(rt; out.as_slice(), text.as_bytes(), "at {failing}");
+    }
+    Ok(())
+}
+
+#[test]
+fn gathered_answers_are_one_write_for_each_read(rt: HostRuntime) -> Result<(), Fail> {
+    let mut input = Vec::new(rt.alloc());
+    let mut want = Vec::new(rt.alloc());
+    for _ in 0..LINES {
+        input.extend_from_slice(b"c5f877\n")?;
+        want.extend_from_slice(b"3 VZEROUPPER 0 c5f877\n")?;
+    }
+    for most in [NEVER, 5000, 11] {
+        let mut out = Vec::new(rt.alloc());
+        let mut reader = OddReader::new(input.as_slice(), NEVER);
+        let mut writer = SlowWriter::new(&mut out, most, NEVER);
+        let status = run(
+            rt.alloc(),
+            &recode_default(),
+            &mut StdSource::new(&mut reader),
+            &mut StdSink::new(Gatherer::new(&mut writer)),
+        );
+        assert_eq!(rt; status.code(), 0);
+        if most == NEVER {
+            assert!(rt; writer.call <= reader.call);
+        }
+        assert!(rt; out.as_slice() == want.as_slice());
+    }
+    Ok(())
+}
+
+#[test]
+fn a_gathered_write_that_failed_is_a_write_fault(rt: HostRuntime) -> Result<(), Fail> {
+    // How many bytes a call takes, which call fails, how many calls there are, and what is written.
+    let cases = [
+        (NEVER, 0, 1, ""),
+        (NEVER, 1, 2, "error Outside\nerror Outside\n"),
+        (NEVER, 2, 3, "error Outside\nerror Outside\nerror Outside\n"),
+        (19, 1, 2, "error Outside\nerror"),
+        // A writer that takes nothing has failed.
+        (0, NEVER, 1, ""),
+    ];
+    for (most, failing, calls, text) in cases {
+        let mut out = Vec::new(rt.alloc());
+        // The reads give two lines, one line, and one without its end.
+        let mut source = MemSource::new(b"33\n33\n33\n    33", 6, &[]);
+        let mut writer = SlowWriter::new(&mut out, most, failing);
+        let status = run(
+            rt.alloc(),
+            &recode_default(),
+            &mut source,
+            &mut StdSink::new(Gatherer::new(&mut writer)),
+        );
+        assert_eq!(rt; status.code(), 3, "at {failing}");
+        assert_eq!(rt; writer.call, calls, "at {failing}");
+        assert_eq!(rt; out.as_slice(), text.as_bytes(), "at {failing}");
+    }
+    Ok(())
+}
+
+// Notes its calls in their order, a write as W and a flush as F.
+#[derive(Drop)]
+struct Noting {
+    calls: ArrayVec<u8, 32>,
+}
+
+impl Sink for Noting {
+    ghost text = { λ _. None };
+
+    ghost faults = { λ _. 0 };
+
+    fn write_all(&mut self, _piece: &[u8]) -> Result<(), Failed> {
+        let _ = self.calls.try_push(b'W');
+        Ok(())
+    }
+
+    fn flush(&mut self) -> Result<(), Failed> {
+        let _ = self.calls.try_push(b'F');
+        Ok(())
+    }
+}
+
+// Runs, and input whose reads have a line each, and the calls of the sink.
+const CALLS: [(&[&str], &[u8], &[u8]); 6] = [
+    // A flush before each read, of which the last finds the end, and one at the end.
+    (
+        &["recode", "default"],
+        b"c5f877\nc5fc77\n      \n",
+        b"FWFWFWFF",
+    ),
+    (&["recode", "default"], b"c5f877\n33", b"FWFFWF"),
+    (&["recode", "default"], b"", b"FF"),
+    (&["sweep", "default"], b"c5f877\n", b"FWWFF"),
+    (&["make", "2"], b"c5f877\n", b"WF"),
+    (&["make", "0"], b"c5f877\n", b""),
+];
+
+#[test]
+fn what_is_held_back_is_handed_on_before_each_read_and_at_the_end(rt: HostRuntime) {
+    for (at, &(list, input, calls)) in CALLS.iter().enumerate() {
+        let mut words = Words::new();
+        for word in list {
+            words.push(word);
+        }
+        let mut sink = Noting {
+            calls: ArrayVec::new(),
+        };
+        run(
+            rt.alloc(),
+            &words,
+            &mut MemSource::new(input, 7, &[]),
+            &mut sink,
+        );
+        assert_eq!(rt; sink.calls.as_slice(), calls, "at {at}");
+    }
 }
 
 // A source that gives nothing, and counts how often it is asked.

@@ -46,10 +46,10 @@ pub trait Source {
 
 /// What the output goes to.
 pub trait Sink {
-    // The bytes that were written, where the sink tells them.
+    // The bytes that were written, where the sink tells them. Those that it holds back are among them.
     ghost text: { Self → Option (List ℕ) };
 
-    // How many writes failed: a `u64`.
+    // How many calls failed: a `u64`.
     ghost faults: { Self → ℕ };
 
     /// Writes the whole piece. A failed write has written a front of it, which may be empty. `Failed`
@@ -58,6 +58,14 @@ pub trait Sink {
         ensures appends { OnOk result (Appends (text self.old) (text self.new) piece.now) }
         ensures quiet { OnOk result (faults self.new ≡ faults self.old) }
         ensures front { OnErr result (AppendsFront (text self.old) (text self.new) piece.now) }
+        ensures cause { OnErr result (RoseOrIsLast (faults self.old) (faults self.new)) }
+        ensures never_falls { faults self.old ≤ faults self.new };
+
+    /// Hands on what the sink holds back of the pieces that it took. What it tells stays, also where this fails. `Failed`
+    /// comes only where the count of faults rises in this call or stands at the greatest `u64`.
+    fn flush(&mut self) -> Result<(), Failed>
+        ensures keeps { Keeps (text self.old) (text self.new) }
+        ensures quiet { OnOk result (faults self.new ≡ faults self.old) }
         ensures cause { OnErr result (RoseOrIsLast (faults self.old) (faults self.new)) }
         ensures never_falls { faults self.old ≤ faults self.new };
 }

@@ -1,11 +1,14 @@
 //! The loop over the input.
 
 ghost use Rattle.std.specs.Prelude.{◌≡◌, ◌<◌, min};
+ghost use Rattle.std.specs.Io.KnownBytes.{Keeps};
+ghost use Rattle.vex_tool.specs.Ends.{IsStopped};
 ghost use Rattle.vex_tool.specs.Report.{report, MayLackMemory};
 ghost use Rattle.vex_tool.specs.Run.{Ran};
 
 use crate::command::Command;
 use crate::ends::{Failed, PIECE, Sink, Source};
+use crate::halt::Halt;
 use crate::line_buffer::{LineBuffer, feed, finish};
 use crate::report::LineRoom;
 use crate::status::Status;
@@ -24,7 +27,23 @@ fn wanted(room: usize) -> usize
     room.clamp(1, PIECE)
 }
 
-/// Reads lines to the end of the input, and answers each.
+// Why a run stops in the midst of a piece. Where there was no memory for a line, the answers of those before it are
+// handed on first.
+fn stopped<K: Sink>(halt: Halt, sink: &mut K) -> Halt
+    ensures keeps { Keeps (K.text sink.old) (K.text sink.new) }
+    ensures cause { IsStopped halt result (K.faults sink.old) (K.faults sink.new) }
+{
+    match halt {
+        Halt::WriteFault => halt,
+        Halt::NoMemory => match sink.flush() {
+            Ok(()) => halt,
+            Err(failed) => Halt::from(failed),
+        },
+    }
+}
+
+/// Reads lines to the end of the input, and answers each. Before each read and at the end, what the sink holds back is
+/// handed on: who waits for an answer before he gives the next line has it.
 pub fn answer_input<S: Source, K: Sink>(
     alloc: Global,
     command: &Command,
@@ -40,6 +59,9 @@ pub fn answer_input<S: Source, K: Sink>(
     let mut buffer = [0u8; PIECE];
     let mut room = INPUT_LIMIT;
     loop {
+        if let Err(Failed) = sink.flush() {
+            return Status::WriteFault;
+        }
         let piece = &mut buffer[..wanted(room)];
         match source.read(piece) {
             Err(Failed) => return Status::ReadFault,
@@ -52,7 +74,7 @@ pub fn answer_input<S: Source, K: Sink>(
             Ok(_) if room == 0 => return Status::TooLong,
             Ok(n) => {
                 if let Err(halt) = feed(alloc, command, &mut line, &piece[..n], &mut lent, sink) {
-                    return halt.status();
+                    return stopped(halt, sink).status();
                 }
                 room -= n;
             }

@@ -142,8 +142,16 @@ pub fn feed<K: Sink>(
     Ok(())
 }
 
-/// Answers the line that has no end, unless it is empty. `WriteFault` where a write of the sink fails, and `NoMemory`
-/// where there is none.
+// Hands on what the sink holds back.
+fn hand_on<K: Sink>(sink: &mut K) -> Result<(), Halt>
+    ensures { Answers (λ _. ⊥) result (K.text sink.old) (K.text sink.new) (K.faults sink.old) (K.faults sink.new) [] }
+{
+    sink.flush()?;
+    Ok(())
+}
+
+/// Answers the line that has no end, unless it is empty, and hands on what the sink holds back. `WriteFault` where a
+/// write of the sink fails or that does, and `NoMemory` where there is none.
 pub fn finish<K: Sink>(
     alloc: Global,
     command: &Command,
@@ -155,7 +163,8 @@ pub fn finish<K: Sink>(
         (K.text sink.old) (K.text sink.new) (K.faults sink.old) (K.faults sink.new) (last (report command.now) line.now) }
 {
     if line.is_empty() {
-        return Ok(());
+        return hand_on(sink);
     }
-    answer(alloc, command, line, room, sink)
+    answer(alloc, command, line, room, sink)?;
+    hand_on(sink)
 }

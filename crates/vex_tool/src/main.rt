@@ -32,6 +32,7 @@ ghost use Rattle.vex_tool.specs.Run.{input_limit};
 
 use command::Command;
 use ends::{Failed, Sink, Source};
+use gatherer::Gatherer;
 use input::answer_input;
 use make_line::write_made;
 use status::Status;
@@ -49,6 +50,7 @@ mod emulate_lines;
 mod ends;
 #[cfg(test)]
 mod example;
+mod gatherer;
 mod generator;
 mod halt;
 mod input;
@@ -185,7 +187,8 @@ fn main(rt: HostRuntime) -> ExitCode {
     let mut words = Words::new();
     push_arguments(&rt, &mut words);
     let mut source = StdSource::new(rt.stdin());
-    let mut sink = StdSink::new(rt.stdout());
+    // `run` hands on what is gathered before each read.
+    let mut sink = StdSink::new(Gatherer::new(rt.stdout()));
     let status = run(rt.alloc(), &words, &mut source, &mut sink);
     if status != Status::Done {
         // Nothing is left to do where this fails too.

@@ -109,10 +109,11 @@ fn line_of(count: u32, totals: &Totals) -> LineText
     text
 }
 
-/// Generates so many spellings, recodes each under all settings, and writes the line that sums this up, in one write.
-/// `Failed` where the sink's write fails.
+/// Generates so many spellings, recodes each under all settings, and writes the line that sums this up, in one write,
+/// which is then handed on. `Failed` where a call of the sink fails.
 pub fn write_made<K: Sink>(count: u32, sink: &mut K) -> Result<(), Failed>
     ensures { Writes result (K.text sink.old) (K.text sink.new) (K.faults sink.old) (K.faults sink.new) (made count) }
 {
-    sink.write_all(line_of(count, &add_up(count)).as_str().as_bytes())
+    sink.write_all(line_of(count, &add_up(count)).as_str().as_bytes())?;
+    sink.flush()
 }

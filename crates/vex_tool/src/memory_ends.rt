@@ -1,6 +1,6 @@
 //! A source and a sink in memory, whose calls fail where they are told to.
 
-ghost use Rattle.std.specs.Prelude.{◌≡◌, ◌<◌, ◌≤◌, ◌↔◌, ◌⊎◌, min, [], length, take, drop, Some, Ok, IfOk, OnOk, OnErr, IsErr, Contains};
+ghost use Rattle.std.specs.Prelude.{◌≡◌, ◌<◌, ◌≤◌, ◌↔◌, ◌⊎◌, min, [], length, take, drop, Some, Ok, IfOk, OnOk, OnErr, IsOk, IsErr, Contains};
 ghost use Rattle.std.specs.Io.KnownBytes.{Appends, Consumes, Keeps, IsAtEnd};
 ghost use Rattle.vex_tool.specs.Ends.{RoseOrIsLast, AppendsFront, counted};
 ghost use Rattle.vex_tool.specs.MemoryEnds.{read_len, after_read, after_read_fault, with_written, after_write, after_write_fault};
@@ -177,5 +177,20 @@ impl Sink for MemSink<'_> {
         }
         self.faults = self.faults.saturating_add(1);
         Err(Failed)
+    }
+
+    /// It holds nothing back, and never fails.
+    fn flush(&mut self) -> Result<(), Failed>
+        // What every sink does.
+        ensures keeps { Keeps (Some self.old.written) (Some self.new.written) }
+        ensures quiet { OnOk result (self.new.faults ≡ self.old.faults) }
+        ensures cause { OnErr result (RoseOrIsLast self.old.faults self.new.faults) }
+        ensures never_falls { self.old.faults ≤ self.new.faults }
+
+        // What this sink does.
+        ensures unchanged { self.new ≡ self.old }
+        ensures works { IsOk result }
+    {
+        Ok(())
     }
 }

@@ -77,8 +77,8 @@ impl<R: Read> Source for StdSource<R> {
     }
 }
 
-/// A sink over a writer. A call writes until the whole piece is written, and fails where a write does
-/// or takes nothing.
+/// A sink over a writer. `write_all` writes until the whole piece is written, and fails where a write does or takes
+/// nothing; `flush` makes one flush of the writer, and fails where that does.
 #[derive(Drop)]
 pub struct StdSink<W: Write> {
     output: W,
@@ -129,5 +129,24 @@ impl<W: Write> Sink for StdSink<W> {
             }
         }
         Ok(())
+    }
+
+    fn flush(&mut self) -> Result<(), Failed>
+        // What every sink does. Of its own bytes this one tells nothing.
+        ensures quiet { OnOk result (self.new.faults ≡ self.old.faults) }
+        ensures cause { OnErr result (RoseOrIsLast self.old.faults self.new.faults) }
+        ensures never_falls { self.old.faults ≤ self.new.faults }
+
+        // What its writer says of it, where the writer's bytes are known.
+        ensures bytes { Keeps (W.contents self.old.output) (W.contents self.new.output) }
+        ensures fault { OnErr result (self.new.faults ≡ counted self.old.faults 1) }
+    {
+        match self.output.flush() {
+            Ok(()) => Ok(()),
+            Err(_) => {
+                self.faults = self.faults.saturating_add(1);
+                Err(Failed)
+            }
+        }
     }
 }

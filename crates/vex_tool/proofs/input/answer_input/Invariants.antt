@@ -2,12 +2,12 @@ use Rattle.vex_tool.specs.Report.{report}
 use Rattle.vex_tool.proofs.RunLemmas.{Going}
 use Rattle.vex_tool.proofs.input.answer_input.Given as goal
 
-abbrev pub invariant-loop-line : goal.invariant-loop-line
-invariant-loop-line g l =
+abbrev pub invariant-loop-buffer : goal.invariant-loop-buffer
+invariant-loop-buffer g l =
     Going (report l.command)
     (record { left = g.S.Source.left l.fn.source; given = g.S.Source.given l.fn.source; source_faults = g.S.Source.faults l.fn.source; text = g.K.Sink.text l.fn.sink; sink_faults = g.K.Sink.faults l.fn.sink })
     l.line l.room
     (record { left = g.S.Source.left l.source; given = g.S.Source.given l.source; source_faults = g.S.Source.faults l.source; text = g.K.Sink.text l.sink; sink_faults = g.K.Sink.faults l.sink })
 
-abbrev pub decreases-loop-line : goal.decreases-loop-line
-decreases-loop-line g l = l.room
+abbrev pub decreases-loop-buffer : goal.decreases-loop-buffer
+decreases-loop-buffer g l = l.room
