@@ -101,5 +101,5 @@ fn a_failed_write_ends_the_spellings(rt: HostRuntime) {
     let mut sink = MemSink::new(&mut room, &[2]);
     let status = run(rt.alloc(), &words, &mut source, &mut sink);
     assert_eq!(rt; status.code(), 3);
-    assert_eq!(rt; sink.written(), b"c4e170580488\nc4e17058448800\n");
+    assert_eq!(rt; sink.written(), "c4e170580488\nc4e17058448800\n".as_bytes());
 }
