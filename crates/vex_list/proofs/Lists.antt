@@ -25,11 +25,11 @@ lt_up Less h = refl
 lt_up Equal h = cc
 lt_up Greater h = cc
 
-not_up : (b : Bool) → b ≡ true → b ≡ false → ⊥
+pub not_up : (b : Bool) → b ≡ true → b ≡ false → ⊥
 not_up true h k = cc
 not_up false h k = cc
 
-no_true : (b : Bool) → (b ≡ true → ⊥) → b ≡ false
+pub no_true : (b : Bool) → (b ≡ true → ⊥) → b ≡ false
 no_true true h = absurd (h refl)
 no_true false h = refl
 

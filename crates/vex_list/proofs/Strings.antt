@@ -3,11 +3,13 @@ use Rattle.std.specs.Prelude.{◌≡◌, refl, ◌⊎◌, ℕ, zero, suc, ◌+�
 use Rattle.std.specs.Cmp.{nat_cmp_is}
 use Rattle.std.specs.Cmp.Lexicographic.{slice_cmp}
 use Rattle.std.specs.Ordering.{nat_cmp, is_lt, ordering_then}
+use Rattle.std.proofs.Math.Nat.{eq-or-lt_of_le}
 use Rattle.std.proofs.Common.{Less, Equal, arith, ap, sym, ◌∙◌, inl, inr, subst, subst₂}
 use Rattle.x86_address.specs.Bytes.{IsBytes}
 use Rattle.vex_rows.specs.Row.{Among}
 use Rattle.vex_rows.specs.Row.Lists.{among-map, from-map, among-append, among-append_left, among-append_right, from-filter}
 use Rattle.vex_list.specs.Order.{Before, Ascending}
+use Rattle.vex_list.specs.AllSpellings.{joined, strings}
 
 -- strings with one first byte are ordered by the others, and else by the first
 same_first : (k : ℕ) (a b : List ℕ) → Before a b → Before (k ∷ a) (k ∷ b)
@@ -38,11 +40,6 @@ ascending_filter p (x ∷ xs) a = by (p x) (ascending_filter p xs a.1) where
 
 -- ---- the strings
 
--- n bytes from k on, each before each of the tails
-unfoldable pub joined : List (List ℕ) → ℕ → ℕ → List (List ℕ)
-joined tails zero k = []
-joined tails (suc n) k = map (λ tail. k ∷ tail) tails ++ joined tails n (suc k)
-
 -- a string that begins with one of n bytes from k on and goes on with one of the tails
 record Joined (tails : List (List ℕ)) (n k : ℕ) (b : List ℕ) : Type 0 where
   first : ℕ
@@ -55,37 +52,26 @@ record Joined (tails : List (List ℕ)) (n k : ℕ) (b : List ℕ) : Type 0 wher
 from_joined : (tails : List (List ℕ)) (n k : ℕ) (b : List ℕ) → Among b (joined tails n k) → Joined tails n k b
 unfolding joined
 from_joined tails zero k b m = absurd m
-from_joined tails (suc n) k b m = elim (among-append b (map (λ tail. k ∷ tail) tails) (joined tails n (suc k)) m) [
+from_joined tails (suc n) k b m = elim (among-append b (map (λ tail. k ∷ tail) tails) (joined tails n (k + 1)) m) [
   | inl h ↦ let t = from-map (λ tail. k ∷ tail) b tails h in record { first = k; tail = t.0; from = omega arith; below = omega arith; among = t.1; is = t.2 }
-  | inr h ↦ let later = from_joined tails n (suc k) b h in record { first = later.first; tail = later.tail; from = omega (arith, later.from); below = omega (arith, later.below); among = later.among; is = later.is }
+  | inr h ↦ let later = from_joined tails n (k + 1) b h in record { first = later.first; tail = later.tail; from = omega (arith, later.from); below = omega (arith, later.below); among = later.among; is = later.is }
 ]
-
-at_first : (k first : ℕ) → k ≤ first → (k ≡ first) ⊎ (suc k ≤ first)
-at_first zero zero h = inl refl
-at_first zero (suc first) h = inr (omega arith)
-at_first (suc k) zero h = absurd (omega arith)
-at_first (suc k) (suc first) h = elim (at_first k first (omega arith)) [ inl e ↦ inl (ap suc e) | inr l ↦ inr (omega arith) ]
 
 to_joined : (tails : List (List ℕ)) (n k first : ℕ) (tail : List ℕ) → k ≤ first → first < k + n → Among tail tails → Among (first ∷ tail) (joined tails n k)
 unfolding joined
 to_joined tails zero k first tail from below m = absurd (omega (arith, from, below))
-to_joined tails (suc n) k first tail from below m = by (at_first k first from) (λ l. to_joined tails n (suc k) first tail l (omega (arith, below)) m) where
-  by : (k ≡ first) ⊎ (suc k ≤ first) → (suc k ≤ first → Among (first ∷ tail) (joined tails n (suc k))) → Among (first ∷ tail) (map (λ tail. k ∷ tail) tails ++ joined tails n (suc k))
-  by (inl e) later = among-append_left (first ∷ tail) (map (λ tail. k ∷ tail) tails) (joined tails n (suc k)) (subst (λ j. Among (j ∷ tail) (map (λ tail. k ∷ tail) tails)) e (among-map (λ tail. k ∷ tail) tail tails m))
-  by (inr l) later = among-append_right (first ∷ tail) (map (λ tail. k ∷ tail) tails) (joined tails n (suc k)) (later l)
+to_joined tails (suc n) k first tail from below m = by (eq-or-lt_of_le from) (λ l. to_joined tails n (k + 1) first tail (omega (arith, l)) (omega (arith, below)) m) where
+  by : (k ≡ first) ⊎ (k < first) → (k < first → Among (first ∷ tail) (joined tails n (k + 1))) → Among (first ∷ tail) (map (λ tail. k ∷ tail) tails ++ joined tails n (k + 1))
+  by (inl e) later = among-append_left (first ∷ tail) (map (λ tail. k ∷ tail) tails) (joined tails n (k + 1)) (subst (λ j. Among (j ∷ tail) (map (λ tail. k ∷ tail) tails)) e (among-map (λ tail. k ∷ tail) tail tails m))
+  by (inr l) later = among-append_right (first ∷ tail) (map (λ tail. k ∷ tail) tails) (joined tails n (k + 1)) (later l)
 
 ascending_joined : (tails : List (List ℕ)) (n k : ℕ) → Ascending tails → Ascending (joined tails n k)
 unfolding joined
 ascending_joined tails zero k a = tt
-ascending_joined tails (suc n) k a = ascending_append (map (λ tail. k ∷ tail) tails) (joined tails n (suc k)) (ascending_map k tails a) (ascending_joined tails n (suc k) a) (λ x y m l.
+ascending_joined tails (suc n) k a = ascending_append (map (λ tail. k ∷ tail) tails) (joined tails n (k + 1)) (ascending_map k tails a) (ascending_joined tails n (k + 1) a) (λ x y m l.
     let t = from-map (λ tail. k ∷ tail) x tails m in
-    let later = from_joined tails n (suc k) y l in
+    let later = from_joined tails n (k + 1) y l in
     subst₂ Before (sym t.2) (sym later.is) (less_first k later.first t.0 later.tail (omega (arith, later.from))))
-
--- all strings of at most n bytes
-unfoldable pub strings : ℕ → List (List ℕ)
-strings zero = [] ∷ []
-strings (suc n) = [] ∷ joined (strings n) 256 0
 
 pub ascending_strings : (n : ℕ) → Ascending (strings n)
 unfolding strings

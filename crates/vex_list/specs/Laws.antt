@@ -8,6 +8,7 @@ use Rattle.vex_decode.specs.Fields.{CanSay}
 use Rattle.vex_decode.specs.Spelling.{Syntax, IsSyntax, meant}
 use Rattle.vex_list.specs.declared.choices.Choices.{Choices}
 use Rattle.vex_list.specs.Order.{is_before, IsListOfAll, IsNext}
+use Rattle.vex_list.specs.AllSpellings.{all_spellings}
 use Rattle.vex_list.specs.Choices.{IsChoices, FormFits, Allows, r_fixed, x_fixed, b_fixed, v_fixed, lows_of, prefix_form, chosen_fields, made, g_number, v_number, e_target, imm_operand}
 
 -- a choice is one of those that the row and the meaning leave open
@@ -34,6 +35,13 @@ NoneMissing = (row : Row) (s : Syntax) (m : Meaning) → IsRow row → IsSyntax 
 -- the spellings of every meaning stand in one list, and so are finitely many
 abbrev pub AllAreListed : Type 0
 AllAreListed = (m : Meaning) → (all : List (List ℕ)) × IsListOfAll m all
+
+-- that list is the only one, and it is the definition's
+abbrev pub ListIsOne : Type 0
+ListIsOne = (m : Meaning) (xs ys : List (List ℕ)) → IsListOfAll m xs → IsListOfAll m ys → xs ≡ ys
+
+abbrev pub TheseAreAll : Type 0
+TheseAreAll = (m : Meaning) → IsListOfAll m (all_spellings m)
 
 -- the least spelling that comes after a string is the first of that list which does, so that the list is gone through by
 -- taking the least after the empty string, and then the least after each

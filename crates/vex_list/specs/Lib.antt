@@ -1,4 +1,5 @@
 pub mod Order
+pub mod AllSpellings
 pub mod Choices
 pub mod Laws
 pub mod Next

@@ -1,7 +1,7 @@
 //! What holds of all spellings of a meaning, each law as the contract of a function that does nothing, but for
 //! naming the laws that it follows from.
 
-ghost use Rattle.vex_list.specs.Laws.{AllAreListed, NextIsListed, NoneMissing};
+ghost use Rattle.vex_list.specs.Laws.{AllAreListed, ListIsOne, NextIsListed, NoneMissing, TheseAreAll};
 
 use vex_decode::{prefix_free, reading_is_spelling, spelling_is_read};
 
@@ -15,6 +15,9 @@ pub fn none_missing()
 /// turn, go through the list from its first to its last, and end.
 pub fn all_are_listed()
     ensures listed { AllAreListed }
+    // That list is the only one, and it is the one of the definition.
+    ensures one { ListIsOne }
+    ensures these { TheseAreAll }
     ensures next { NextIsListed }
 {
     prefix_free();

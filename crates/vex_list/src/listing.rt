@@ -6,10 +6,12 @@ ghost use Rattle.vex_rows.specs.declared.entry.Entry.{Entry};
 ghost use Rattle.vex_rows.specs.Entries.{entries_with};
 ghost use Rattle.vex_rows.specs.Row.{Among};
 ghost use Rattle.vex_rows.specs.Table.{table};
+ghost use Rattle.vex_list.specs.AllSpellings.{all_spellings, spellings_after, spellings_from};
 ghost use Rattle.vex_list.specs.Order.{Before, IsNext, UpTo};
 ghost use Rattle.vex_list.specs.Next.{Covers};
 ghost use Rattle.vex_list.specs.Sets.{ByEntries};
 
+use crate::laws::all_are_listed;
 use crate::rows::by_entry;
 use arrayvec::ArrayVec;
 use std::marker::Brand;
@@ -80,7 +82,11 @@ pub fn spelling_after(instruction: &Instruction, previous: &[u8]) -> Option<Spel
     // No other spelling stands between.
     ensures least { IfSome result (λ next. (bytes : List ℕ) → Spells bytes instruction.now.meaning → Before previous.now bytes → UpTo next bytes) }
     ensures none { IsNone result ↔ ((bytes : List ℕ) → Spells bytes instruction.now.meaning → Before previous.now bytes → ⊥) }
+    // In the list of all spellings, what comes after `previous` is the answer and what comes after that.
+    ensures listed { spellings_after instruction.now.meaning previous.now ≡ spellings_from instruction.now.meaning result }
 {
+    // A law: the list has all.
+    all_are_listed();
     next_spelling(instruction, previous)
 }
 
@@ -90,8 +96,11 @@ pub fn first_spelling(instruction: &Instruction) -> Option<Spelling>
     ensures spells { IfSome result (λ first. Spells first instruction.now.meaning) }
     ensures least { IfSome result (λ first. (bytes : List ℕ) → Spells bytes instruction.now.meaning → UpTo first bytes) }
     ensures none { IsNone result ↔ ((bytes : List ℕ) → Spells bytes instruction.now.meaning → ⊥) }
+    // The list of all spellings is the answer and what comes after that.
+    ensures listed { all_spellings instruction.now.meaning ≡ spellings_from instruction.now.meaning result }
 {
-    // A law: a spelling isn't empty.
+    // Laws: a spelling isn't empty, and the list has all.
     prefix_free();
+    all_are_listed();
     next_spelling(instruction, &[])
 }

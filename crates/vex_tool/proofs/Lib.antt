@@ -5,6 +5,7 @@ pub mod FeedLemmas
 pub mod WrittenLines
 pub mod LeastLinesLemmas
 pub mod EmulateLinesLemmas
+pub mod SpellingLinesLemmas
 pub mod SweepLinesLemmas
 pub mod NoteLinesLemmas
 pub mod RunLemmas

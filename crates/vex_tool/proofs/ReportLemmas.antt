@@ -6,7 +6,7 @@ use Rattle.std.proofs.lemmas.List.{take_at}
 use Rattle.hex.specs.Hex.{decode_of, decode_sized}
 use Rattle.hex.specs.declared.error.FromHexError.{FromHexError}
 use Rattle.vex_tool.specs.declared.command.Command.{Command}
-use Rattle.vex_tool.specs.declared.command.Command.TheVariants.{Recode, Sweep, Notes, Asm, Emulate, Least, Make}
+use Rattle.vex_tool.specs.declared.command.Command.TheVariants.{Recode, Sweep, Notes, Asm, Emulate, Spellings, Least, Make}
 use Rattle.vex_tool.specs.declared.report.LineError.TheVariants.{BadHex, LongLine}
 use Rattle.vex_tool.specs.Report.{report, code, code_report, digits, or_bad_hex, taken}
 use Rattle.vex_tool.proofs.LineMachineLemmas.{SameForLong}
@@ -74,6 +74,7 @@ taken-long (Recode settings) line long = code-long line long
 taken-long (Sweep settings) line long = code-long line long
 taken-long (Notes settings) line long = code-long line long
 taken-long (Emulate settings) line long = code-long line long
+taken-long (Spellings settings) line long = code-long line long
 taken-long Least line long = code-long line long
 taken-long (Make count) line long = code-long line long
 

@@ -5,7 +5,7 @@ use Rattle.std.specs.Io.KnownBytes.{Appends, Consumes, IsAtEnd}
 use Rattle.std.proofs.lemmas.Bool.{cases_lt}
 use Rattle.std.proofs.lemmas.List.{append-nil, length-append}
 use Rattle.vex_tool.specs.declared.command.Command.{Command}
-use Rattle.vex_tool.specs.declared.command.Command.TheVariants.{Recode, Sweep, Notes, Asm, Emulate, Least, Make}
+use Rattle.vex_tool.specs.declared.command.Command.TheVariants.{Recode, Sweep, Notes, Asm, Emulate, Spellings, Least, Make}
 use Rattle.vex_tool.specs.declared.status.Status.{Status}
 use Rattle.vex_tool.specs.declared.status.Status.TheVariants.{Done, ReadFault, Usage, WriteFault, NoMemory, TooLong}
 use Rattle.vex_tool.specs.Ends.{AppendsFront, IsQuiet, RoseByMoreThan, WhereTaken, counted}
@@ -76,6 +76,7 @@ takes-memory (Sweep settings) line h = refl
 takes-memory (Notes settings) line h = absurd h
 takes-memory (Asm settings) line h = absurd h
 takes-memory (Emulate settings) line h = absurd h
+takes-memory (Spellings settings) line h = absurd h
 takes-memory Least line h = absurd h
 takes-memory (Make count) line h = absurd h
 

@@ -3,7 +3,7 @@ use Rattle.std.specs.Prelude.{ℕ, ◌&&◌, nat_le, List, [], ◌∷◌, codes,
 use Rattle.std.specs.Str.Parse.{digits_value}
 use Rattle.x86_uarch.specs.Profiles.{profile_of}
 use Rattle.vex_tool.specs.declared.command.Command.{Command}
-use Rattle.vex_tool.specs.declared.command.Command.TheVariants.{Recode, Sweep, Notes, Asm, Emulate, Least, Make}
+use Rattle.vex_tool.specs.declared.command.Command.TheVariants.{Recode, Sweep, Notes, Asm, Emulate, Spellings, Least, Make}
 
 -- a number of spellings to make, where a word writes it
 abbrev pub count_written : List ℕ → ℕ → Option ℕ
@@ -20,6 +20,7 @@ count_made (Sweep settings) = None
 count_made (Notes settings) = None
 count_made (Asm settings) = None
 count_made (Emulate settings) = None
+count_made (Spellings settings) = None
 count_made Least = None
 count_made (Make count) = Some count
 
@@ -31,6 +32,7 @@ command_of_two verb name =
     else if bytes_eq verb (codes "notes") then option_map Notes (profile_of name)
     else if bytes_eq verb (codes "asm") then option_map Asm (profile_of name)
     else if bytes_eq verb (codes "emulate") then option_map Emulate (profile_of name)
+    else if bytes_eq verb (codes "spellings") then option_map Spellings (profile_of name)
     else if bytes_eq verb (codes "make") then option_map Make (count_of name)
     else None
 
@@ -38,8 +40,8 @@ command_of_two verb name =
 abbrev pub command_of_one : List ℕ → Option Command
 command_of_one verb = if bytes_eq verb (codes "least") then Some Least else None
 
--- the command that the words ask for: `recode P`, `sweep P`, `notes P`, `asm P` or `emulate P`, where P names a profile,
--- `least`, or `make N`, where N writes a number
+-- the command that the words ask for: `recode P`, `sweep P`, `notes P`, `asm P`, `emulate P` or `spellings P`, where P names
+-- a profile, `least`, or `make N`, where N writes a number
 abbrev pub command : List (List ℕ) → Option Command
 command (verb ∷ []) = command_of_one verb
 command (verb ∷ name ∷ []) = command_of_two verb name

@@ -13,6 +13,7 @@ pub mod SweepLines
 pub mod NoteLines
 pub mod LeastLines
 pub mod EmulateLines
+pub mod SpellingLines
 pub mod Generator
 pub mod Totals
 pub mod Report

@@ -5,7 +5,7 @@ use Rattle.hex.specs.declared.error.FromHexError.{FromHexError}
 use Rattle.vex_tool.specs.declared.command.Command.{Command}
 use Rattle.vex_tool.specs.Command.{count_made}
 use Rattle.vex_encode.specs.Sweep.{swept}
-use Rattle.vex_tool.specs.declared.command.Command.TheVariants.{Recode, Sweep, Notes, Asm, Emulate, Least, Make}
+use Rattle.vex_tool.specs.declared.command.Command.TheVariants.{Recode, Sweep, Notes, Asm, Emulate, Spellings, Least, Make}
 use Rattle.vex_tool.specs.declared.report.LineError.{LineError}
 use Rattle.vex_tool.specs.declared.report.LineError.TheVariants.{LongLine, BadHex}
 use Rattle.vex_tool.specs.ErrorLine.{error_line}
@@ -15,6 +15,7 @@ use Rattle.vex_tool.specs.SweepLines.{sweep_lines}
 use Rattle.vex_tool.specs.NoteLines.{note_lines}
 use Rattle.vex_tool.specs.AsmLine.{asm_line}
 use Rattle.vex_tool.specs.EmulateLines.{emulate_lines}
+use Rattle.vex_tool.specs.SpellingLines.{spelling_lines}
 use Rattle.vex_tool.specs.LeastLines.{least_lines}
 use Rattle.vex_tool.specs.Generator.{made}
 
@@ -48,6 +49,7 @@ code_report (Sweep settings) (Ok bytes) = sweep_lines (swept settings bytes)
 code_report (Notes settings) (Ok bytes) = note_lines settings bytes
 code_report (Asm settings) (Ok text) = asm_line settings text
 code_report (Emulate settings) (Ok bytes) = emulate_lines settings bytes
+code_report (Spellings settings) (Ok bytes) = spelling_lines settings bytes
 code_report Least (Ok bytes) = least_lines bytes
 code_report (Make count) (Ok bytes) = []
 
@@ -77,6 +79,7 @@ MayLackMemory (Sweep settings) line = IsOk (code line)
 MayLackMemory (Notes settings) line = ⊥
 MayLackMemory (Asm settings) line = ⊥
 MayLackMemory (Emulate settings) line = ⊥
+MayLackMemory (Spellings settings) line = ⊥
 MayLackMemory Least line = ⊥
 MayLackMemory (Make count) line = ⊥
 
@@ -87,6 +90,7 @@ takes_memory (Sweep settings) = true
 takes_memory (Notes settings) = false
 takes_memory (Asm settings) = false
 takes_memory (Emulate settings) = false
+takes_memory (Spellings settings) = false
 takes_memory Least = false
 takes_memory (Make count) = false
 

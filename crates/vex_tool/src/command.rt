@@ -21,6 +21,8 @@ pub enum Command {
     Asm(InstDecoder),
     /// Run the code of each line, under these settings, and write what it changes.
     Emulate(InstDecoder),
+    /// Write all spellings of the meaning that begins each line, under these settings.
+    Spellings(InstDecoder),
     /// Write what the run of instructions of each line needs, and the profiles that have it.
     Least,
     /// Generate so many spellings, 1 to 1,000,000, and write a line that sums up how they are recoded.
@@ -56,8 +58,8 @@ fn count_of(word: &str) -> Option<u32>
 }
 
 impl Command {
-    /// The command that the words ask for, `None` where they aren't `recode`, `sweep`, `notes`, `asm` or `emulate` and the
-    /// name of a profile, `least`, or `make` and a number. Whether a word was refused plays no part.
+    /// The command that the words ask for, `None` where they aren't `recode`, `sweep`, `notes`, `asm`, `emulate` or
+    /// `spellings` and the name of a profile, `least`, or `make` and a number. Whether a word was refused plays no part.
     pub fn of(words: &Words) -> Option<Command>
         ensures { result ≡ command words.now.0 }
     {
@@ -88,6 +90,7 @@ impl Command {
             "notes" => profile(name).map(Command::Notes),
             "asm" => profile(name).map(Command::Asm),
             "emulate" => profile(name).map(Command::Emulate),
+            "spellings" => profile(name).map(Command::Spellings),
             "make" => count_of(name).map(Command::Make),
             _ => None,
         }
@@ -103,6 +106,7 @@ impl Command {
             | Command::Notes(_)
             | Command::Asm(_)
             | Command::Emulate(_)
+            | Command::Spellings(_)
             | Command::Least => None,
             Command::Make(count) => Some(*count),
         }

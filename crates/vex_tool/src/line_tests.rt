@@ -179,7 +179,7 @@ static MACHINES: [(&str, &[u8], &[u8]); 15] = [
 ];
 
 // Runs a command under a profile over a line, and wants this text.
-fn check(rt: &impl Abort, alloc: Global, verb: &str, profile: &str, line: &[u8], text: &[u8]) {
+pub fn check(rt: &impl Abort, alloc: Global, verb: &str, profile: &str, line: &[u8], text: &[u8]) {
     let mut words = Words::new();
     words.push(verb);
     if profile != "" {

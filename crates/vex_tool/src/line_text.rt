@@ -67,7 +67,7 @@ pub fn instruction_text(instruction: &Instruction, spelling: &Spelling) -> LineT
     text
 }
 
-/// The line of canonical bytes: their hex digits and a line end.
+/// The line of a spelling: its bytes in hex digits and a line end.
 pub fn bytes_text(spelling: &Spelling) -> LineText
     ensures { result.bytes ≡ encode_lower spelling.now ++ codes "\n" }
 {

@@ -68,6 +68,9 @@ mod memory_ends;
 mod note_lines;
 mod report;
 mod result_line;
+mod spelling_lines;
+#[cfg(test)]
+mod spelling_tests;
 mod status;
 mod std_ends;
 mod sweep_lines;
@@ -78,8 +81,10 @@ mod words;
 /// Runs the command that the words ask for, over all that the source has left.
 ///
 /// For each line of the input `recode P` writes one line, `sweep P` one for each instruction and one for the end, and
-/// `notes P` one for each note and then that of `recode P`, and `asm P` one; `emulate P` one for each vector and each block of
-/// memory that the line's code changes and one for the end; `least` writes one for each bit of settings that the line's instructions need and one for the profiles. `make N` reads nothing, and writes one line.
+/// `notes P` one for each note and then that of `recode P`, and `asm P` one; `emulate P` one for each vector and each
+/// block of memory that the line's code changes and one for the end; `spellings P` one for each spelling of the meaning
+/// and one for the end; `least` writes one for each bit of settings that the line's instructions need and one for the
+/// profiles. `make N` reads nothing, and writes one line.
 /// The status is `Usage` where the words are no command or one was refused. Else it is that of the first of these events:
 /// a read failed, a write failed, there was no memory for the sweep of a line, the source gave a byte after 2^26 bytes, or
 /// all is written and the input has ended. Only `sweep P` takes memory.

@@ -15,6 +15,7 @@ use crate::least_lines::write_least;
 use crate::line_text::error_text;
 use crate::note_lines::write_notes;
 use crate::result_line::write_result_line;
+use crate::spelling_lines::write_spellings;
 use crate::sweep_lines::write_sweep;
 use arrayvec::ArrayVec;
 use std::alloc::Global;
@@ -143,6 +144,10 @@ fn write_code_report<K: Sink>(
         }
         Command::Emulate(settings) => {
             write_emulated(settings, bytes, memory, sink)?;
+            Ok(())
+        }
+        Command::Spellings(settings) => {
+            write_spellings(settings, bytes, sink)?;
             Ok(())
         }
         Command::Least => {
