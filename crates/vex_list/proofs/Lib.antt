@@ -9,3 +9,4 @@ mod Whole
 mod Table
 mod Strings
 mod AllListed
+mod Computed

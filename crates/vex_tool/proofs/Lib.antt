@@ -15,3 +15,4 @@ pub mod Assembled
 pub mod CountLemmas
 pub mod GeneratorLemmas
 mod Computed
+mod ComputedCommands
