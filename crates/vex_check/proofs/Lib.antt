@@ -5,3 +5,4 @@ pub mod Accepting
 pub mod Noting
 pub mod Checking
 pub mod Covering
+mod Computed

@@ -3,3 +3,4 @@ pub mod Padded
 pub mod Running
 pub mod Suiting
 pub mod SubsetRows
+mod Computed

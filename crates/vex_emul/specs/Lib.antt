@@ -5,3 +5,4 @@ pub mod Work
 pub mod Subset
 pub mod Run
 pub mod Laws
+pub mod Lending

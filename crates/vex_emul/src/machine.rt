@@ -4,6 +4,8 @@ ghost use Rattle.std.specs.Prelude.{◌≡◌, ◌↔◌, ◌≤◌, ◌<◌, �
 ghost use Rattle.std.specs.Prelude.{slice_index, slice_index_or, slice_set, take};
 ghost use Rattle.std.specs.Simd.Lanes.{chunk, put_chunk};
 ghost use Rattle.vex_emul.specs.Machine.{start_of, general, base_part, index_part, place_of};
+ghost use Rattle.std.specs.Borrow.{sem};
+ghost use Rattle.vex_emul.specs.Lending.{LendsMemory};
 ghost use Rattle.vex_emul.specs.Work.{low, with_vector, upper_cleared};
 
 use std::marker::Model;
@@ -82,6 +84,23 @@ impl<'a> Machine<'a> {
         ensures { result.now ≡ self.now.memory }
     {
         self.memory
+    }
+
+    /// The memory, to be changed. The registers stay as they are.
+    pub fn memory_mut(&mut self) -> &mut [u8]
+        ensures* lent { sem 𝓛 (LendsMemory self.entry result) }
+        ensures is { result.now ≡ self.old.memory }
+    {
+        self.memory
+    }
+
+    /// Sets all registers to 0, as `new` does. The memory stays as it is, so that a machine that has run code can be used
+    /// again without a new one.
+    pub fn reset(&mut self)
+        ensures { self.new ≡ start_of self.old.memory }
+    {
+        self.vectors = [[0; VECTOR_BYTES]; REGISTERS];
+        self.q = [0; REGISTERS];
     }
 
     // The number in a general register of 64 bits, and `None` for any other register.

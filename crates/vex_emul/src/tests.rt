@@ -343,3 +343,22 @@ fn a_place_goes_round(rt: HostRuntime) {
     assert_eq!(rt; &machine.vector(0)[..], &rising(0x08, 1, 16)[..]);
     assert_eq!(rt; run_code(&mut machine, &InstDecoder::default(), &[]), Ok(0));
 }
+
+#[test]
+fn a_machine_is_used_again(rt: HostRuntime) {
+    let mut memory = [0; 1024];
+    let mut machine = started(&mut memory);
+    machine.memory_mut().fill(0xAB);
+    machine.reset();
+    assert_eq!(rt; &machine.vector(5)[..], &[0; 32][..]);
+    assert_eq!(rt; machine.q(5), 0);
+    assert_eq!(rt; machine.memory().get(16), Some(&0xAB));
+    // vmovdqu [rax], xmm0, which is 0 now
+    let code = [0xC5, 0xFA, 0x7F, 0x00];
+    assert_eq!(rt;
+        run_code(&mut machine, &InstDecoder::default(), &code),
+        Ok(1)
+    );
+    assert_eq!(rt; machine.memory().get(15), Some(&0));
+    assert_eq!(rt; machine.memory().get(16), Some(&0xAB));
+}

@@ -10,3 +10,4 @@ mod Table
 mod Strings
 mod AllListed
 mod Computed
+mod OrderComputed

@@ -1,6 +1,7 @@
 -- Bytes that count up, the machine at the start of a line, and the lines of what a run changes.
 use Rattle.std.proofs.Common.{◌≡◌, ℕ, ◌+◌, ◌-◌, ◌*◌, ◌%◌, ◌<◌, ◌≤◌, Bool, true, false, List, [], ◌∷◌, ◌++◌, length, get_or, take, drop, map, zero, suc, ap, sym, ◌∙◌, refl, arith, slice_set, append_assoc}
-use Rattle.std.specs.Prelude.{bytes_eq, codes, decimal, slice_index_or, if◌then◌else◌, Result}
+use Rattle.std.specs.Prelude.{bytes_eq, codes, decimal, flat_map, slice_index_or, if◌then◌else◌, Option, Result, Ok, Err}
+use Rattle.std.specs.Io.KnownBytes.{Appends}
 use Rattle.std.specs.List.{range_with_len}
 use Rattle.std.specs.Simd.Lanes.{chunk}
 use Rattle.std.proofs.Math.Seq.{set-append_seam, take-length, drop-length}
@@ -10,6 +11,10 @@ use Rattle.hex.specs.Hex.{encode_lower}
 use Rattle.vex_emul.specs.Machine.{State, start_of}
 use Rattle.vex_emul.specs.Run.{ran}
 use Rattle.vex_emul.specs.declared.run.Halt.{Halt}
+use Rattle.vex_tool.specs.Ends.{AppendsFront, RoseOrIsLast, Writes}
+use Rattle.vex_tool.proofs.EndsLemmas.{Writes-all, Writes-fault}
+use Rattle.vex_tool.proofs.FeedLemmas.{Told}
+use Rattle.vex_tool.proofs.WrittenLines.{Wrote, Wrote-fault, Wrote-step, split-item, take-item}
 use Rattle.vex_tool.specs.EmulateLines.{block_line, block_lines, changed_line, counting, emulate_lines, numbers, outcome_lines, ran_line, start, start_memory, start_vector, vector_line, vector_lines}
 
 -- ---- bytes that count up
@@ -81,9 +86,13 @@ pub started : ℕ → State
 started zero = start_of start_memory
 started (suc i) = set_up (started i) i
 
-pub started-none : (memory : List ℕ) → memory ≡ start_memory → start_of memory ≡ started 0
+-- no register is set yet, and the memory counts up
+pub started-none : (reset : State) (memory lent filled : List ℕ) → reset ≡ start_of memory → length memory ≡ 1024 → lent ≡ reset.memory
+    → filled ≡ counting 0 (length lent) → record reset { memory = filled } ≡ started 0
 unfolding started
-started-none memory is = ap start_of is
+started-none reset memory lent filled is long lends counts =
+    let all : length lent ≡ 1024 = ap length (lends ∙ ap (λ (s : State). s.memory) is) ∙ long in
+    ap (λ (s : State). record s { memory = filled }) is ∙ ap start_of (counts ∙ ap (counting 0) all)
 
 pub started-more : (i : ℕ) (old mid new : State) (n : ℕ) (vector : List ℕ) (m : ℕ) → old ≡ started i → n ≡ i → vector ≡ counting (16 * n) 32 → m ≡ i
     → mid ≡ record old { vectors = slice_set old.vectors i vector } → new ≡ record mid { q = slice_set mid.q i (32 * m) } → new ≡ started (i + 1)
@@ -101,23 +110,49 @@ pub started-all : started 16 ≡ start
 unfolding started start numbers
 started-all = refl
 
-pub start-room : length start.memory ≡ 1024
+-- a run from the start leaves as much memory
+pub started-room : (begun left : State) → begun ≡ start → length left.memory ≡ length begun.memory → length left.memory ≡ 1024
 unfolding start
-start-room = length-counting 0 1024
+started-room begun left is room = room ∙ ap (λ (s : State). length s.memory) is ∙ length-counting 0 1024
 
 -- ---- the lines
 
-pub count-numbers : (n : ℕ) → length (numbers n) ≡ n
+count-numbers : (n : ℕ) → length (numbers n) ≡ n
 unfolding numbers
 count-numbers n = length-range_with_len 0 n
 
 -- the number at a place is the place
-pub number-at : (n i : ℕ) → i < n → i ≡ get_or (numbers n) i i
+number-at : (n i : ℕ) → i < n → i ≡ get_or (numbers n) i i
 unfolding numbers
 number-at n i h = let same : 0 + i ≡ i = omega arith in sym (get_or-range_with_len 0 n i i h ∙ same)
 
-pub take-numbers : (n i : ℕ) → i ≡ n → take i (numbers n) ≡ numbers n
+take-numbers : (n i : ℕ) → i ≡ n → take i (numbers n) ≡ numbers n
 take-numbers n i ended = ap (λ m. take m (numbers n)) (ended ∙ sym (count-numbers n)) ∙ take-length (numbers n)
+
+-- a loop writes a line for each number below n, and has come to i
+module _ (line : ℕ → List ℕ) (n i : ℕ) (first now : Told) (wrote : Wrote line (take i (numbers n)) first now) where
+  -- it writes the line of i
+  pub number-written : (new : Told) → i < n → Appends now.text new.text (line i) → new.faults ≡ now.faults → Wrote line (take (i + 1) (numbers n)) first new
+  number-written new below written quiet =
+      let within : i < length (numbers n) = omega (arith, below, count-numbers n) in
+      rw (take-item (numbers n) i i within (number-at n i below)) (Wrote-step line (take i (numbers n)) i first now new wrote written quiet)
+
+  -- the write of the line of i fails
+  pub number-fault : {T E : Type 0} (result : Result T E) (e : E) (new : Told) → result ≡ Err e → i < n → AppendsFront now.text new.text (line i)
+      → RoseOrIsLast now.faults new.faults → Writes result first.text new.text first.faults new.faults (flat_map line (numbers n))
+  number-fault result e new is below front cause =
+      let within : i < length (numbers n) = omega (arith, below, count-numbers n) in
+      let split = split-item (numbers n) i i within (number-at n i below) in
+      Writes-fault result e _ _ _ _ _ is
+      (Wrote-fault line (numbers n) (take i (numbers n)) (drop (i + 1) (numbers n)) i first now new.text wrote split front)
+      (rw wrote.quiet at cause)
+
+  -- it ends
+  pub numbers-written : {T E : Type 0} (result : Result T E) (x : T) → result ≡ Ok x → n ≤ i → i ≤ n
+      → Writes result first.text now.text first.faults now.faults (flat_map line (numbers n))
+  numbers-written result x is over within =
+      let ended : i ≡ n = omega (arith, over, within) in
+      Writes-all result x _ _ _ _ _ is (rw (take-numbers n i ended) at wrote.written) wrote.quiet
 
 pub changed-not : (letter : List ℕ) (number : ℕ) (bytes first : List ℕ) → bytes_eq bytes first ≡ true → changed_line letter number bytes first ≡ []
 unfolding changed_line
@@ -145,12 +180,8 @@ block-is memory b bytes first below these start =
     ∙ ap (λ bs. changed_line (codes "m") (32 * b) bs (chunk (32 * b) 32 start_memory)) these
 
 -- all lines of a run
-pub emulated : (settings : List Bool) (code : List ℕ) (first state : State) (result : Result ℕ Halt) → first ≡ start
-    → ran settings first code ≡ (state, result)
-    → emulate_lines settings code ≡ vector_lines state.vectors ++ block_lines state.memory ++ ran_line result
+pub emulated : (settings : List Bool) (code : List ℕ) (state kept : State) (result : Result ℕ Halt) → ran settings start code ≡ (state, result)
+    → kept ≡ state → emulate_lines settings code ≡ vector_lines kept.vectors ++ block_lines kept.memory ++ ran_line result
 unfolding emulate_lines
-emulated settings code first state result begins is =
-    ap (λ s. outcome_lines (ran settings s code)) (sym begins) ∙ ap outcome_lines is
-
-pub still-room : (first : State) (memory kept : List ℕ) → first ≡ start → length memory ≡ length first.memory → kept ≡ memory → length kept ≡ 1024
-still-room first memory kept begins room is = ap length is ∙ room ∙ ap (λ (s : State). length s.memory) begins ∙ start-room
+emulated settings code state kept result is same =
+    ap outcome_lines is ∙ ap (λ (s : State). outcome_lines (s, result)) (sym same)

@@ -16,3 +16,4 @@ pub mod Assembled
 pub mod CountLemmas
 pub mod GeneratorLemmas
 mod Computed
+mod ComputedCommands

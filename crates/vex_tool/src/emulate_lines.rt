@@ -1,14 +1,16 @@
-//! What a run of code changes in a machine, which starts anew for each line.
+//! What a run of code changes in a machine, which is put back to the start for each line.
 
 ghost use Rattle.std.specs.Prelude.{◌≡◌, ◌≤◌, ◌+◌, ◌++◌, codes, decimal, length};
 ghost use Rattle.std.specs.Simd.Lanes.{chunk};
 ghost use Rattle.hex.specs.Hex.{encode_lower};
 ghost use Rattle.vex_tool.specs.EmulateLines.{block_lines, changed_line, counting, emulate_lines, ran_line, vector_lines};
+ghost use Rattle.vex_emul.specs.Run.{ran};
 ghost use Rattle.vex_tool.specs.EmulateLines.{start};
 ghost use Rattle.vex_tool.specs.Ends.{Writes};
 
 use crate::ends::{Failed, Sink};
 use crate::line_text::{LineText, push_hex};
+use std::marker::Model;
 use vex_asm::append_number;
 use vex_emul::{Halt, Machine, run_code};
 use x86_settings::InstDecoder;
@@ -39,17 +41,52 @@ fn block_from(first: usize) -> [u8; BLOCK]
     bytes
 }
 
-// The machine at the start of a line, with this memory.
-fn machine_at_start(memory: &mut [u8; MEMORY]) -> Machine<'_>
-    ensures { result ≡ start }
+// Puts a machine that may have run code back to the start.
+fn put_back(machine: &mut Machine<'_>)
+    requires { length machine.old.memory ≡ 1024 }
+    ensures { machine.new ≡ start }
 {
-    count_up(0, memory);
-    let mut machine = Machine::new(memory);
+    machine.reset();
+    count_up(0, machine.memory_mut());
     for i in 0..16 {
         machine.set_vector(i, &block_from(16 * usize::from(i)));
         machine.set_q(i, 32 * u64::from(i));
     }
-    machine
+}
+
+/// A machine with 1,024 bytes of memory, which is made once and lent to each line. A line finds it as the line before left
+/// it, and begins by putting it back to the start.
+#[derive(Drop)]
+pub struct LineMachine<'a> {
+    machine: Machine<'a>,
+}
+
+impl<'a> Model for LineMachine<'a> {
+    ghost use Rattle.std.specs.Prelude.{◌≡◌, length};
+    ghost use Rattle.vex_emul.specs.Machine.{State};
+
+    ghost Value = { State };
+
+    ghost view = { λ m. m.machine };
+
+    ghost invariant = { λ m. length m.machine.memory ≡ 1024 };
+}
+
+impl<'a> LineMachine<'a> {
+    /// A machine over these bytes, which have no part in what a line writes.
+    pub fn new(memory: &'a mut [u8; MEMORY]) -> LineMachine<'a> {
+        LineMachine {
+            machine: Machine::new(memory),
+        }
+    }
+
+    // Runs the code under settings, from the start.
+    fn run(&mut self, settings: &InstDecoder, code: &[u8]) -> Result<usize, Halt>
+        ensures { ran settings.now start code.now ≡ (self.new, result) }
+    {
+        put_back(&mut self.machine);
+        run_code(&mut self.machine, settings, code)
+    }
 }
 
 // The line of some bytes: a letter and a number, which name them, and the bytes in hex digits.
@@ -143,20 +180,19 @@ fn ran_text(answer: &Result<usize, Halt>) -> LineText
     text
 }
 
-/// Runs the code under settings on a machine at the start, and writes a line for each vector and each block of the memory
-/// that it changed, and one for the end, in one write each. `Failed` where a write of the sink fails.
+/// Runs the code under settings from the start of the machine, and writes a line for each vector and each block of the
+/// memory that it changed, and one for the end, in one write each. `Failed` where a write of the sink fails.
 pub fn write_emulated<K: Sink>(
     settings: &InstDecoder,
     code: &[u8],
-    memory: &mut [u8; MEMORY],
+    machine: &mut LineMachine<'_>,
     sink: &mut K,
 ) -> Result<(), Failed>
     ensures { Writes result (K.text sink.old) (K.text sink.new) (K.faults sink.old) (K.faults sink.new)
         (emulate_lines settings.now code.now) }
 {
-    let mut machine = machine_at_start(memory);
-    let answer = run_code(&mut machine, settings, code);
-    write_vectors(&machine, sink)?;
-    write_blocks(machine.memory(), sink)?;
+    let answer = machine.run(settings, code);
+    write_vectors(&machine.machine, sink)?;
+    write_blocks(machine.machine.memory(), sink)?;
     sink.write_all(ran_text(&answer).as_str().as_bytes())
 }

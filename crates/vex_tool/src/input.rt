@@ -7,6 +7,7 @@ ghost use Rattle.vex_tool.specs.Report.{report, MayLackMemory};
 ghost use Rattle.vex_tool.specs.Run.{Ran};
 
 use crate::command::Command;
+use crate::emulate_lines::MEMORY;
 use crate::ends::{Failed, PIECE, Sink, Source};
 use crate::halt::Halt;
 use crate::line_buffer::{LineBuffer, feed, finish};
@@ -55,7 +56,8 @@ pub fn answer_input<S: Source, K: Sink>(
         (record { left = S.left source.new; given = S.given source.new; source_faults = S.faults source.new; text = K.text sink.new; sink_faults = K.faults sink.new }) }
 {
     let mut line = LineBuffer::new();
-    let mut lent = LineRoom::new();
+    let mut memory = [0; MEMORY];
+    let mut lent = LineRoom::new(&mut memory);
     let mut buffer = [0u8; PIECE];
     let mut room = INPUT_LIMIT;
     loop {

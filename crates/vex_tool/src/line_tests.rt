@@ -126,7 +126,7 @@ static RUNS: [(&[u8], &[u8]); 8] = [
 /// A profile, a line of code, and what `emulate` answers: what it changes of the vectors and of the memory, in this order,
 /// how it ends, and that it starts anew for each line.
 #[rattlefmt::skip]
-static MACHINES: [(&str, &[u8], &[u8]); 15] = [
+static MACHINES: [(&str, &[u8], &[u8]); 17] = [
     ("default", b"C5 F1 FC C2",
         b"y0 30323436383a3c3e40424446484a4c4e00000000000000000000000000000000\n\
         end 1\n"),
@@ -156,6 +156,14 @@ static MACHINES: [(&str, &[u8], &[u8]); 15] = [
         end 1\n\
         y0 c0c1c2c3c4c5c6c7c8c9cacbcccdcecfd0d1d2d3d4d5d6d7d8d9dadbdcdddedf\n\
         end 1\n"),
+    ("default", b"C5 F1 FC C2\nC5 FD DB C0",
+        b"y0 30323436383a3c3e40424446484a4c4e00000000000000000000000000000000\n\
+        end 1\n\
+        end 1\n"),
+    ("default", b"C5 FE 7F 06 33\n\n",
+        b"m192 000102030405060708090a0b0c0d0e0f101112131415161718191a1b1c1d1e1f\n\
+        stopped 4 Outside\n\
+        end 0\n"),
     ("default", b"C5 FE 7F 85 40 03 00 00 C5 F8 77 C5 FA 6F 45",
         b"y0 000102030405060708090a0b0c0d0e0f00000000000000000000000000000000\n\
         y1 101112131415161718191a1b1c1d1e1f00000000000000000000000000000000\n\

@@ -8,7 +8,7 @@ ghost use Rattle.vex_tool.specs.Report.{report, code, code_report, taken, digits
 
 use crate::asm_line::write_asm_line;
 use crate::command::Command;
-use crate::emulate_lines::{MEMORY, write_emulated};
+use crate::emulate_lines::{LineMachine, MEMORY, write_emulated};
 use crate::ends::{Failed, Sink};
 use crate::halt::Halt;
 use crate::least_lines::write_least;
@@ -80,22 +80,22 @@ fn decode_digits(text: &[u8], bytes: &mut [u8]) -> Result<usize, LineError>
     }
 }
 
-/// Room for the digits of a line, for the bytes that they write, and for the memory of a machine that runs them. It is made
-/// once and lent to each line: to make it anew, by value, would take longer than all else that a line needs.
+/// Room for the digits of a line and for the bytes that they write, and a machine that runs them. It is made once and lent
+/// to each line: to make it anew, by value, would take longer than all else that a line needs.
 #[derive(Drop)]
-pub struct LineRoom {
+pub struct LineRoom<'a> {
     digits: ArrayVec<u8, MAX_LINE>,
     bytes: [u8; MAX_CODE],
-    memory: [u8; MEMORY],
+    machine: LineMachine<'a>,
 }
 
-impl LineRoom {
-    /// Room that holds nothing yet.
-    pub fn new() -> LineRoom {
+impl<'a> LineRoom<'a> {
+    /// Room that holds nothing yet. The memory is the machine's.
+    pub fn new(memory: &'a mut [u8; MEMORY]) -> LineRoom<'a> {
         LineRoom {
             digits: ArrayVec::new(),
             bytes: [0; MAX_CODE],
-            memory: [0; MEMORY],
+            machine: LineMachine::new(memory),
         }
     }
 
@@ -117,12 +117,12 @@ pub fn write_error<K: Sink>(error: LineError, sink: &mut K) -> Result<(), Failed
     sink.write_all(error_text(error.name()).as_str().as_bytes())
 }
 
-// Writes the report of a line of which the command takes these bytes. The memory is a machine's.
+// Writes the report of a line of which the command takes these bytes.
 fn write_code_report<K: Sink>(
     alloc: Global,
     command: &Command,
     bytes: &[u8],
-    memory: &mut [u8; MEMORY],
+    machine: &mut LineMachine<'_>,
     sink: &mut K,
 ) -> Result<(), Halt>
     ensures { Answers (λ written. (written ≡ []) × IsTrue (takes_memory command.now)) result
@@ -143,7 +143,7 @@ fn write_code_report<K: Sink>(
             Ok(())
         }
         Command::Emulate(settings) => {
-            write_emulated(settings, bytes, memory, sink)?;
+            write_emulated(settings, bytes, machine, sink)?;
             Ok(())
         }
         Command::Spellings(settings) => {
@@ -175,10 +175,10 @@ pub fn write_report<K: Sink>(
 {
     if let Command::Asm(_) = command {
         // It takes the line itself.
-        return write_code_report(alloc, command, line, &mut room.memory, sink);
+        return write_code_report(alloc, command, line, &mut room.machine, sink);
     }
     match room.decode(line) {
-        Ok(n) => write_code_report(alloc, command, &room.bytes[..n], &mut room.memory, sink),
+        Ok(n) => write_code_report(alloc, command, &room.bytes[..n], &mut room.machine, sink),
         Err(error) => {
             write_error(error, sink)?;
             Ok(())

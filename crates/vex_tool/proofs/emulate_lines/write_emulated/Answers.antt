@@ -1,21 +1,16 @@
 use Rattle.std.proofs.Common.{◌≡◌, ◌∙◌}
 use Rattle.std.proofs.lemmas.Result.{err_from_is_err_and}
 use Rattle.vex_tool.specs.EmulateLines.{ran_line}
-use Rattle.vex_tool.proofs.EmulateLinesLemmas.{emulated, still-room}
+use Rattle.vex_tool.proofs.EmulateLinesLemmas.{emulated}
 use Rattle.vex_tool.proofs.EndsLemmas.{Appends-then, AppendsFront-more, AppendsFront-then, Writes-fault, Writes-then}
 use Rattle.vex_tool.proofs.emulate_lines.write_emulated.Goals as goal
-
-pub write_blocks-requires : goal.write_blocks-requires
-write_blocks-requires g c =
-    still-room c.machine_at_start-machine.result c.run_code-answer.new.machine.memory c.memory.result.now c.machine_at_start-machine.ensures
-    c.run_code-answer.ensures.room c.memory.ensures
 
 pub returns-in_err-write_vectors : goal.returns-in_err-write_vectors
 returns-in_err-write_vectors g c =
     let failed = err_from_is_err_and c.from_residual.result c.from_residual.ensures.1 in
     let whole =
-    emulated c.args.settings.now c.args.code.now c.machine_at_start-machine.result c.run_code-answer.new.machine c.run_code-answer.result
-    c.machine_at_start-machine.ensures c.run_code-answer.ensures.ran in
+    emulated c.args.settings.now c.args.code.now c.run-answer.new.self c.machine.inside.machine c.run-answer.result c.run-answer.ensures
+    c.machine.view_is in
     let vectors = c.in_err-write_vectors.ensures in
     rw whole
     (Writes-fault _ failed.0 _ _ _ _ _ failed.1 (AppendsFront-more _ _ _ _ (AppendsFront-more _ _ _ _ vectors.front)) vectors.cause)
@@ -24,8 +19,8 @@ pub returns-in_err-write_blocks : goal.returns-in_err-write_blocks
 returns-in_err-write_blocks g c =
     let failed = err_from_is_err_and c.from_residual-in_err-write_blocks.result c.from_residual-in_err-write_blocks.ensures.1 in
     let whole =
-    emulated c.args.settings.now c.args.code.now c.machine_at_start-machine.result c.run_code-answer.new.machine c.run_code-answer.result
-    c.machine_at_start-machine.ensures c.run_code-answer.ensures.ran in
+    emulated c.args.settings.now c.args.code.now c.run-answer.new.self c.machine.inside.machine c.run-answer.result c.run-answer.ensures
+    c.machine.view_is in
     let vectors = c.in_ok-write_vectors.ensures in
     let front = rw c.memory.ensures at c.in_err-write_blocks.ensures.front in
     rw whole
@@ -36,12 +31,12 @@ returns-in_err-write_blocks g c =
 pub returns : goal.returns
 returns g c =
     let whole =
-    emulated c.args.settings.now c.args.code.now c.machine_at_start-machine.result c.run_code-answer.new.machine c.run_code-answer.result
-    c.machine_at_start-machine.ensures c.run_code-answer.ensures.ran in
+    emulated c.args.settings.now c.args.code.now c.run-answer.new.self c.machine.inside.machine c.run-answer.result c.run-answer.ensures
+    c.machine.view_is in
     let vectors = c.in_ok-write_vectors.ensures in
     let blocks = c.in_ok-write_blocks.ensures in
     let appended = rw c.memory.ensures at blocks.appends in
-    let piece : c.as_bytes.result.now ≡ ran_line c.run_code-answer.result = c.as_bytes.ensures.value ∙ c.as_str.ensures.value ∙ c.ran_text.ensures in
+    let piece : c.as_bytes.result.now ≡ ran_line c.run-answer.result = c.as_bytes.ensures.value ∙ c.as_str.ensures.value ∙ c.ran_text.ensures in
     let written = rw piece at c.write_all.ensures in
     rw whole
     (Writes-then _ _ _ _ _ _ _ _ _ (Appends-then _ _ _ _ _ vectors.appends appended) (blocks.quiet ∙ vectors.quiet)

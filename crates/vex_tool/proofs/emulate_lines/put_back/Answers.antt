@@ -1,10 +1,11 @@
 use Rattle.std.proofs.Common.{◌≡◌, ◌∙◌, ap, arith}
-use Rattle.vex_tool.specs.EmulateLines.{counting}
 use Rattle.vex_tool.proofs.EmulateLinesLemmas.{started, started-all, started-more, started-none}
-use Rattle.vex_tool.proofs.emulate_lines.machine_at_start.Goals as goal
+use Rattle.vex_tool.proofs.emulate_lines.put_back.Goals as goal
 
 pub loop-i-init : goal.loop-i-init
-loop-i-init c = c.new-machine.ensures ∙ started-none c.count_up.new.bytes (c.count_up.ensures ∙ ap (counting 0) c.told-memory)
+loop-i-init c =
+    started-none c.reset.new.self c.args.machine.now.memory c.memory_mut.result.now c.count_up.new.bytes c.reset.ensures c.requires
+    c.memory_mut.ensures.is c.count_up.ensures
 
 pub loop-i-preserved : goal.loop-i-preserved
 loop-i-preserved c =
