@@ -3,8 +3,9 @@
 
 These are the cells by map, implied prefix, opcode byte, W and L (src/cells.rt and specs/Cells.antt), and the places of
 each opcode's entries and of its sizes by the opcode's number (src/places.rt), which tools/opcodes.txt gives. The check
-of vex_rows proves what is written here, and compares it with the table and with src/sizes.rt. Run it at the top of the
-repository after each change of those two; with --check it writes nothing and fails where a file isn't as it would
+of vex_rows proves what is written here, and compares it with the table and with src/sizes.rt. From src/forms.rt it
+writes crates/vex_forms/src/shapes.rt (form_shapes.py), which the check of vex_forms proves. Run it at the top of the
+repository after each change of those three; with --check it writes nothing and fails where a file isn't as it would
 write it. It names the entries that share a key or stand out of order, the opcodes that have more than four entries,
 and those whose sizes stand at two places, which that check refuses too.
 """
@@ -13,9 +14,11 @@ import sys
 from collections import Counter
 from pathlib import Path
 
+from form_shapes import shapes_code
 from opcodes import HERE, read
 
 CRATE = HERE.parent / "crates" / "vex_rows"
+FORMS_CRATE = HERE.parent / "crates" / "vex_forms"
 NOTE = "written by tools/entries.py"
 MAPS = ("Map0F", "Map0F38", "Map0F3A")
 PREFIXES = ("Plain", "Prefix66", "PrefixF3", "PrefixF2")
@@ -202,6 +205,7 @@ def main():
         CRATE / "src" / "cells.rt": cells_code(lists),
         CRATE / "specs" / "Cells.antt": cells_specs(lists),
         CRATE / "src" / "places.rt": places_code(*places(table), size_places()),
+        FORMS_CRATE / "src" / "shapes.rt": shapes_code((CRATE / "src" / "forms.rt").read_text(), NOTE),
     }
     status = 0
     for fault in faults(table):

@@ -1,5 +1,6 @@
 pub mod SizesFit
 pub mod Choices
+pub mod Shaping
 pub mod Choosing
 pub mod Fit
 mod Mapped

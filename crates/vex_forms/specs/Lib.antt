@@ -1,4 +1,5 @@
 pub mod Slots
+pub mod Shapes
 pub mod Gives
 pub mod WellFormed
 pub mod Layout

@@ -66,16 +66,6 @@ bank_at row rule.ByW = general row.w
 bank_at row rule.Element = element_bank row.entry.opcode
 bank_at row rule.Gather = gather_bank row.l row.entry.opcode
 
--- how a form names the bank of a slot, any for an immediate byte, which has none
-abbrev pub bank_rule : SlotRule → BankRule
-bank_rule (slot_rule.G bank) = bank
-bank_rule (slot_rule.V bank) = bank
-bank_rule (slot_rule.VInRegister bank) = bank
-bank_rule (slot_rule.E bank) = bank
-bank_rule slot_rule.U8 = rule.X
-bank_rule slot_rule.I8 = rule.X
-bank_rule (slot_rule.R4 bank) = bank
-
 -- the slots that a form names by one rule: one, and none in memory where it is there for registers alone
 abbrev pub slots_at : Row → SlotRule → List Slot
 slots_at row (slot_rule.G bank) = G (bank_at row bank) ∷ []

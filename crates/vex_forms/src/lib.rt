@@ -37,6 +37,8 @@ mod operand_fields;
 mod operands;
 mod reading;
 mod row_layout;
+mod shape;
+mod shapes;
 mod sizes;
 mod slot;
 mod slots;

@@ -55,18 +55,16 @@ pub fn layout(entry: &Entry, w: bool, l: bool, memory: bool, group: u8) -> Optio
 }
 
 impl Choice {
-    /// The layout of the row. It is a call of its own, so that a choice that is no row costs little.
-    #[inline(never)]
+    /// The layout of the row.
+    #[inline(always)]
     fn row_layout(&self) -> Option<RowLayout>
         ensures some { IsSome result }
         ensures row { IfSome result (IsLayout (chosen self.now)) }
     {
-        let slots = self.slots();
-        let vvvv = self.vvvv_rule(slots.as_slice());
         Some(RowLayout {
             opcode: self.opcode(),
-            slots,
-            vvvv,
+            slots: self.slots(),
+            vvvv: self.vvvv_rule(),
             mem_size: self.memory_size(),
             vector: self.is_vector(),
             index_bank: self.index_bank(),

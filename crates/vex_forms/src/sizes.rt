@@ -3,10 +3,11 @@
 ghost use Rattle.std.specs.Prelude.{◌≡◌, find};
 ghost use Rattle.vex_rows.specs.FormRows.{sizes};
 ghost use Rattle.vex_forms.specs.Layout.{chosen};
-ghost use Rattle.vex_forms.specs.Slots.{bytes_at, found_or, is_of, size_at, size_of};
+ghost use Rattle.vex_forms.specs.Slots.{bytes_at, found_or, is_of, size_of};
 
 use crate::choice::Choice;
-use vex_rows::{ByteCount, SizeList, SizeRule, size_in};
+use crate::shape::ShapeSize;
+use vex_rows::{ByteCount, SizeList, size_in};
 use x86_operand::{MemoryAccessSize, Opcode};
 
 /// The size that a list has for an opcode, or else the other.
@@ -33,30 +34,17 @@ impl Choice {
         }
     }
 
-    /// How many bytes the operand E has in memory.
-    #[inline(always)]
-    fn size_at(&self, size: SizeRule) -> Option<u8>
-        ensures { result ≡ size_at (chosen self.now) size }
-    {
-        match size {
-            SizeRule::Always(count) => self.bytes_at(count),
-            SizeRule::ByOpcode(list, other) => {
-                self.bytes_at(size_or(list, self.entry.opcode, other))
-            }
-        }
-    }
-
     /// How many bytes the memory operand has, and `None` where the row has none. One form reads memory though its
     /// operands are registers.
-    #[tactic(auto, unfolding(crate::specs::Slots::size_of))]
     #[inline(always)]
     fn bytes(&self) -> Option<u8>
         ensures { result ≡ size_of (chosen self.now) }
     {
-        if self.in_memory() {
-            self.size_at(self.form_row().size)
-        } else {
-            self.bytes_at(self.form_row().register_size)
+        match self.shape().size {
+            ShapeSize::Always(bytes) => bytes,
+            ShapeSize::ByOpcode(list, other) => {
+                self.bytes_at(size_or(list, self.entry.opcode, other))
+            }
         }
     }
 

@@ -1,15 +1,15 @@
 //! The slots of a row, and the banks of the registers that they name.
 
-ghost use Rattle.std.specs.Prelude.{◌≡◌, ◌<◌, ◌≤◌, ◌+◌, ◌++◌, if◌then◌else◌};
-ghost use Rattle.arrayvec.specs.ArrayVec.{array_vec_len};
+ghost use Rattle.std.specs.Prelude.{◌≡◌, [], ◌∷◌, take, if◌then◌else◌};
 ghost use Rattle.vex_forms.specs.Layout.{chosen};
-ghost use Rattle.vex_forms.specs.Slots.{bank_at, bank_rule, element_bank, gather_bank, gather_index_bank, general, index_bank, slots, slots_at, vector};
+ghost use Rattle.vex_forms.specs.Shapes.{slots_seen};
+ghost use Rattle.vex_forms.specs.Slots.{element_bank, gather_bank, gather_index_bank, general, index_bank, slots, vector};
 
 use crate::choice::Choice;
+use crate::shape::{BanksByOpcode, RowShape, shape_at};
 use crate::slot::Slot;
 use arrayvec::ArrayVec;
-use vex_rows::{BankRule, Few, SlotRule};
-use x86_operand::RegisterBank::{D, Q, X, Y};
+use x86_operand::RegisterBank::{Q, X, Y};
 use x86_operand::{Opcode, RegisterBank};
 
 /// The vector bank of an L: x with 0, y with 1.
@@ -20,31 +20,20 @@ fn vector(l: bool) -> RegisterBank
     if l { Y } else { X }
 }
 
-/// The general bank of a W: d with 0, q with 1.
-#[inline(always)]
-fn general(w: bool) -> RegisterBank
-    ensures { result ≡ general w }
+/// Whether the general bank of an element is q, that of the 64-bit ones.
+fn is_quadword(opcode: Opcode) -> bool
+    ensures { element_bank opcode ≡ general result }
 {
-    if w { Q } else { D }
+    matches!(opcode, Opcode::VPEXTRQ | Opcode::VPINSRQ)
 }
 
-/// The general bank of an element: q for the 64-bit ones.
-fn element_bank(opcode: Opcode) -> RegisterBank
-    ensures { result ≡ element_bank opcode }
+/// The L whose vector bank a gather's operands have: 0 where the elements are half as wide as the indices.
+fn l_of_gather(l: bool, opcode: Opcode) -> bool
+    ensures { gather_bank (if l then 1 else 0) opcode ≡ vector (if result then 1 else 0) }
 {
     match opcode {
-        Opcode::VPEXTRQ | Opcode::VPINSRQ => Q,
-        _ => D,
-    }
-}
-
-/// The bank of a gather's operands: x where the elements are half as wide as the indices.
-fn gather_bank(l: bool, opcode: Opcode) -> RegisterBank
-    ensures { result ≡ gather_bank (if l then 1 else 0) opcode }
-{
-    match opcode {
-        Opcode::VPGATHERQD | Opcode::VGATHERQPS => X,
-        _ => vector(l),
+        Opcode::VPGATHERQD | Opcode::VGATHERQPS => false,
+        _ => l,
     }
 }
 
@@ -58,86 +47,45 @@ fn gather_index_bank(l: bool, opcode: Opcode) -> RegisterBank
     }
 }
 
-/// How a form names the bank of a slot; of an immediate byte, which has none, any.
+/// The first of four slots.
 #[inline(always)]
-fn bank_rule(rule: SlotRule) -> BankRule
-    ensures { result ≡ bank_rule rule }
+fn first_slots(slots: (Slot, Slot, Slot, Slot), count: u8) -> ArrayVec<Slot, 4>
+    ensures { result.items ≡ take count (slots.0 ∷ slots.1 ∷ slots.2 ∷ slots.3 ∷ []) }
 {
-    match rule {
-        SlotRule::G(bank)
-        | SlotRule::V(bank)
-        | SlotRule::VInRegister(bank)
-        | SlotRule::E(bank)
-        | SlotRule::R4(bank) => bank,
-        SlotRule::U8 | SlotRule::I8 => BankRule::X,
-    }
+    let (a, b, c, d) = slots;
+    let mut first = ArrayVec::from([a, b, c, d]);
+    first.truncate(count as usize);
+    first
 }
 
 impl Choice {
-    /// The bank that the form names.
+    /// The shape that has the row's slots: its own, and where the opcode says the banks, that of the form at the W or L
+    /// with these banks.
     #[inline(always)]
-    fn bank(&self, rule: BankRule) -> RegisterBank
-        ensures { result ≡ bank_at (chosen self.now) rule }
+    fn shape_of_slots(&self) -> &'static RowShape
+        ensures { slots_seen result.now ≡ slots (chosen self.now) }
     {
-        match rule {
-            BankRule::X => X,
-            BankRule::Y => Y,
-            BankRule::D => D,
-            BankRule::Q => Q,
-            BankRule::ByL => vector(self.l),
-            BankRule::ByW => general(self.w),
-            BankRule::Element => element_bank(self.entry.opcode),
-            BankRule::Gather => gather_bank(self.l, self.entry.opcode),
+        let shape = self.shape();
+        match shape.banks {
+            BanksByOpcode::Fixed => shape,
+            BanksByOpcode::Element => {
+                let w = is_quadword(self.entry.opcode);
+                shape_at(self.entry.form, w, self.l, self.memory)
+            }
+            BanksByOpcode::Gather => {
+                let l = l_of_gather(self.l, self.entry.opcode);
+                shape_at(self.entry.form, self.w, l, self.memory)
+            }
         }
     }
 
-    /// Adds the slot that the form names, where the row has it.
-    #[inline(always)]
-    fn add(&self, slots: &mut ArrayVec<Slot, 4>, rule: SlotRule)
-        requires { array_vec_len slots.old < 4 }
-        ensures items { slots.new.items ≡ slots.old.items ++ slots_at (chosen self.now) rule }
-        ensures at_most_one { array_vec_len slots.new ≤ array_vec_len slots.old + 1 }
-    {
-        let bank = self.bank(bank_rule(rule));
-        slots.push(match rule {
-            SlotRule::G(_) => Slot::G(bank),
-            SlotRule::V(_) => Slot::V(bank),
-            SlotRule::VInRegister(_) if self.in_memory() => return,
-            SlotRule::VInRegister(_) => Slot::V(bank),
-            SlotRule::E(_) => Slot::E(bank),
-            SlotRule::U8 => Slot::U8,
-            SlotRule::I8 => Slot::I8,
-            SlotRule::R4(_) => Slot::R4(bank),
-        });
-    }
-
     /// The slots of the row, one for each operand in order.
-    #[tactic(auto, unfolding(crate::specs::Slots::slots))]
     #[inline(always)]
     pub fn slots(&self) -> ArrayVec<Slot, 4>
         ensures { result.items ≡ slots (chosen self.now) }
     {
-        let mut slots = ArrayVec::new();
-        match self.form_row().slots {
-            Few::Zero => {}
-            Few::One(a) => self.add(&mut slots, a),
-            Few::Two(a, b) => {
-                self.add(&mut slots, a);
-                self.add(&mut slots, b);
-            }
-            Few::Three(a, b, c) => {
-                self.add(&mut slots, a);
-                self.add(&mut slots, b);
-                self.add(&mut slots, c);
-            }
-            Few::Four(a, b, c, d) => {
-                self.add(&mut slots, a);
-                self.add(&mut slots, b);
-                self.add(&mut slots, c);
-                self.add(&mut slots, d);
-            }
-        }
-        slots
+        let shape = self.shape_of_slots();
+        first_slots(shape.slots, shape.slot_count)
     }
 
     /// The bank of the index of an address: a vector register where the form gathers, and `Q` elsewhere.
