@@ -17,7 +17,7 @@ use Rattle.vex_rows.specs.declared.steps.Check.TheVariants.{V0, L0, Reg, Mem, Gr
 use Rattle.vex_rows.specs.FormRows.{form_row, gathers}
 use Rattle.vex_rows.specs.Steps.{steps}
 use Rattle.vex_rows.specs.Row.{Row, exists, group_allowed, has_groups, permits_choice, row_at}
-use Rattle.vex_rows.specs.Row.Laws.{checks_of}
+use Rattle.vex_rows.specs.Row.Lemmas.{checks_of}
 use Rattle.vex_forms.specs.declared.shape.BanksByOpcode.{BanksByOpcode}
 use Rattle.vex_forms.specs.declared.shape.BanksByOpcode.TheVariants.{Fixed, Element, Gather}
 use Rattle.vex_forms.specs.declared.slot.Slot.{Slot}
