@@ -254,7 +254,7 @@ made row m bytes e = by (exists row) (is_given row m) refl e where
   by false same h e = cc
 
 -- so only rows of the kind of its operands can give a meaning
-kind_made : (row : Row) (m : Meaning) (bytes : List ℕ) → Among row.kind (kinds_of row.entry.form) → standard_of row m ≡ Some bytes → list_any is_address m.operands ≡ is_memory row.kind
+pub kind_made : (row : Row) (m : Meaning) (bytes : List ℕ) → Among row.kind (kinds_of row.entry.form) → standard_of row m ≡ Some bytes → list_any is_address m.operands ≡ is_memory row.kind
 kind_made row m bytes among e = ap (λ (m : Meaning). list_any is_address m.operands) (sym (made row m bytes e).means) ∙ address_meant row m among
 
 pub other_kind : (row : Row) (m : Meaning) → Among row.kind (kinds_of row.entry.form) → (list_any is_address m.operands ≡ is_memory row.kind → ⊥) → standard_of row m ≡ None

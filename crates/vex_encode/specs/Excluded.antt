@@ -1,59 +1,67 @@
--- Private functions alone cite what stands here: what an instruction shows at once, and what a form asks of it, before a
--- row is looked at.
-use Rattle.std.specs.Prelude.{◌≡◌, Bool, true, false, List, [], ◌∷◌}
-use Rattle.std.specs.List.{list_any}
+-- Private functions alone cite what stands here: what a form asks of an instruction's operands before a row is laid out.
+use Rattle.std.specs.Prelude.{◌≡◌, Bool, true, false, ◌&&◌, List, [], ◌∷◌, length}
 use Rattle.x86_operand.specs.declared.register.RegisterBank.{RegisterBank}
 use Rattle.x86_operand.specs.Instruction.{operand_at}
-use Rattle.x86_operand.specs.Meaning.{OperandMeaning, register, signed, unsigned, memory, nothing}
+use Rattle.x86_operand.specs.Meaning.{OperandMeaning, register, signed, unsigned, memory}
 use Rattle.vex_rows.specs.declared.form_row.SlotRule.{SlotRule}
-use Rattle.vex_rows.specs.declared.form_row.SlotRule.TheVariants.{G, V, VInRegister, E, R4}
+use Rattle.vex_rows.specs.declared.form_row.SlotRule.TheVariants.{G, V, VInRegister, E, U8, I8, R4}
 use Rattle.vex_rows.specs.Row.{Row}
 use Rattle.vex_forms.specs.Slots.{bank_at}
-use Rattle.vex_encode.specs.declared.excluded.Shown.{Shown}
-use Rattle.vex_encode.specs.declared.excluded.Shown.TheVariants.{Register, Immediate, Other}
-use Rattle.vex_encode.specs.declared.excluded.Glance.{Glance}
-use Rattle.vex_encode.specs.Encode.{is_address}
+use Rattle.vex_encode.specs.Assembly.{IsRegisterOf}
+use Rattle.vex_encode.specs.Conditions.{RegisterFits}
 
--- what an operand shows
-abbrev pub shown : OperandMeaning → Shown
-shown (register reg) = Register reg.bank
-shown (signed imm) = Immediate
-shown (unsigned imm) = Immediate
-shown (memory address) = Other
-shown nothing = Other
+-- the operand E is an address where it is in memory, and else a register of this bank
+abbrev pub FitsE : Bool → RegisterBank → OperandMeaning → Type 0
+FitsE in_memory bank (register reg) = (in_memory ≡ false) × RegisterFits bank reg
+FitsE in_memory bank (memory address) = in_memory ≡ true
+FitsE in_memory bank _ = ⊥
 
--- what operands show: whether there is an address among them, and the first three
-pub record IsGlance (operands : List OperandMeaning) (glance : Glance) : Type 0 where
-  pub memory : glance.memory ≡ list_any is_address operands
-  pub first : glance.first ≡ shown (operand_at operands 0)
-  pub second : glance.second ≡ shown (operand_at operands 1)
-  pub third : glance.third ≡ shown (operand_at operands 2)
+-- an operand is an immediate, signed or not
+abbrev pub IsSigned : OperandMeaning → Type 0
+IsSigned (signed imm) = Unit {0}
+IsSigned _ = ⊥
 
--- the operand E is no immediate, and a register only where it isn't in memory, of this bank
-abbrev pub FitsE : Bool → RegisterBank → Shown → Type 0
-FitsE in_memory bank (Register found) = (in_memory ≡ false) × (found ≡ bank)
-FitsE in_memory bank Immediate = ⊥
-FitsE in_memory bank Other = Unit {0}
+abbrev pub IsUnsigned : OperandMeaning → Type 0
+IsUnsigned (unsigned imm) = Unit {0}
+IsUnsigned _ = ⊥
 
 -- an operand is what a slot rule of a row asks for, whose operand E is in memory or not
-abbrev pub RuleFits : Row → Bool → SlotRule → Shown → Type 0
-RuleFits row in_memory (G bank) operand = operand ≡ Register (bank_at row bank)
-RuleFits row in_memory (V bank) operand = operand ≡ Register (bank_at row bank)
-RuleFits row in_memory (R4 bank) operand = operand ≡ Register (bank_at row bank)
+abbrev pub RuleFits : Row → Bool → SlotRule → OperandMeaning → Type 0
+RuleFits row in_memory (G bank) operand = IsRegisterOf (bank_at row bank) operand
+RuleFits row in_memory (V bank) operand = IsRegisterOf (bank_at row bank) operand
+RuleFits row in_memory (R4 bank) operand = IsRegisterOf (bank_at row bank) operand
+RuleFits row in_memory (VInRegister bank) operand = in_memory ≡ false → IsRegisterOf (bank_at row bank) operand
 RuleFits row in_memory (E bank) operand = FitsE in_memory (bank_at row bank) operand
-RuleFits row in_memory _ operand = Unit {0}
+RuleFits row in_memory U8 operand = IsUnsigned operand
+RuleFits row in_memory I8 operand = IsSigned operand
 
--- whether a rule has a slot in some rows alone
+-- whether a rule has a slot in register rows alone
 abbrev pub is_optional : SlotRule → Bool
 is_optional (VInRegister bank) = true
 is_optional _ = false
 
--- the first operands are what the first slot rules ask for, up to one that has a slot in some rows alone
-abbrev pub RulesFit : Row → Bool → List SlotRule → Shown → Shown → Shown → Type 0
-RulesFit row in_memory [] first second third = Unit {0}
-RulesFit row in_memory (a ∷ []) first second third = RuleFits row in_memory a first
-RulesFit row in_memory (a ∷ b ∷ []) first second third =
-    RuleFits row in_memory a first × (is_optional a ≡ false → RuleFits row in_memory b second)
-RulesFit row in_memory (a ∷ b ∷ c ∷ rest) first second third =
-    RuleFits row in_memory a first × (is_optional a ≡ false → RuleFits row in_memory b second)
-    × (is_optional a ≡ false → is_optional b ≡ false → RuleFits row in_memory c third)
+-- whether a rule has no slot in a row whose operand E is in memory or not
+abbrev pub is_missing : Bool → SlotRule → Bool
+is_missing in_memory rule = in_memory && is_optional rule
+
+-- there are as many operands as slot rules, each what its rule asks for. Of three rules the second may have no slot; where
+-- another may have none, nothing is said
+abbrev pub RulesFit : Row → Bool → List SlotRule → List OperandMeaning → Type 0
+RulesFit row in_memory [] operands = length operands ≡ 0
+RulesFit row in_memory (a ∷ []) operands =
+    is_optional a ≡ false → (length operands ≡ 1) × RuleFits row in_memory a (operand_at operands 0)
+RulesFit row in_memory (a ∷ b ∷ []) operands =
+    is_optional a ≡ false → is_optional b ≡ false
+    → (length operands ≡ 2) × RuleFits row in_memory a (operand_at operands 0)
+    × RuleFits row in_memory b (operand_at operands 1)
+RulesFit row in_memory (a ∷ b ∷ c ∷ []) operands =
+    is_optional a ≡ false → is_optional c ≡ false
+    → RuleFits row in_memory a (operand_at operands 0)
+    × (is_missing in_memory b ≡ true → (length operands ≡ 2) × RuleFits row in_memory c (operand_at operands 1))
+    × (is_missing in_memory b ≡ false
+    → (length operands ≡ 3) × RuleFits row in_memory b (operand_at operands 1)
+    × RuleFits row in_memory c (operand_at operands 2))
+RulesFit row in_memory (a ∷ b ∷ c ∷ d ∷ rest) operands =
+    is_optional a ≡ false → is_optional b ≡ false → is_optional c ≡ false → is_optional d ≡ false
+    → RuleFits row in_memory a (operand_at operands 0) × RuleFits row in_memory b (operand_at operands 1)
+    × RuleFits row in_memory c (operand_at operands 2) × RuleFits row in_memory d (operand_at operands 3)

@@ -1,6 +1,6 @@
 //! The shortest spelling of an instruction.
 
-ghost use Rattle.std.specs.Prelude.{ℕ, ◌≡◌, ◌+◌, ◌<◌, ◌≤◌, flat_map, if◌then◌else◌};
+ghost use Rattle.std.specs.Prelude.{ℕ, ◌≡◌, ◌+◌, ◌<◌, ◌≤◌, ◌==◌, false, length, flat_map, if◌then◌else◌};
 ghost use Rattle.std.specs.List.{list_any};
 ghost use Rattle.x86_operand.specs.Meaning.{Meaning, operand_meaning};
 ghost use Rattle.vex_rows.specs.declared.entry.Entry.{Entry};
@@ -12,12 +12,11 @@ ghost use Rattle.vex_decode.specs.Spelling.{bytes_of};
 ghost use Rattle.vex_encode.specs.Assembly.{IsAsked, IsPlaced, row_chosen};
 ghost use Rattle.vex_encode.specs.Canon.{canon};
 ghost use Rattle.vex_encode.specs.Encode.{best, first, is_address, shorter_of, standard_of};
-ghost use Rattle.vex_encode.specs.Excluded.{IsGlance};
 ghost use Rattle.vex_encode.specs.Kind.{kind_seen};
 ghost use Rattle.vex_encode.specs.Standard.{candidate};
 
 use crate::assembly::operand_fields;
-use crate::excluded::{Glance, is_excluded};
+use crate::excluded::is_excluded;
 use crate::fits::given;
 use crate::kind::Kind;
 use crate::operand_walk::Asked;
@@ -30,7 +29,7 @@ use std::sync::ledger::Ledger;
 use step_counter::Steps;
 use vex_forms::laws::rows_are_choices;
 use vex_forms::{RowLayout, layout};
-use vex_rows::{Entry, Form, Prefix, entries_of, row_of_form};
+use vex_rows::{Entry, Few, Form, Prefix, entries_of, row_of_form};
 use x86_operand::{Instruction, Opcode, Operand};
 
 /// Whether an operand is an address.
@@ -53,6 +52,7 @@ fn has_address(instruction: &Instruction) -> bool
 }
 
 /// The spelling of an instruction by a row that can give it, where its operands ask for this.
+#[inline(always)]
 fn spelling_by(choice: &RowChoice, kind: Kind, layout: &RowLayout, asked: &Asked) -> Spelling
     requires kind { (row_chosen choice.now).kind ≡ kind_seen kind }
     requires layout { IsLayout (row_chosen choice.now) layout.now }
@@ -75,7 +75,9 @@ fn spelling_by(choice: &RowChoice, kind: Kind, layout: &RowLayout, asked: &Asked
     spell(&prefix, choice.entry.byte, &numbers, &place, layout.has_imm)
 }
 
-/// The standard spelling of an instruction by a row of its kind, where the row exists and can give it.
+/// The standard spelling of an instruction by a row of its kind, where the row exists and can give it. It is a call of
+/// its own, so that choices which an instruction excludes cost little.
+#[inline(never)]
 fn standard(choice: &RowChoice, instruction: &Instruction) -> Option<Spelling>
     requires listed { Among choice.now.entry table }
     requires memory { choice.now.memory ≡ list_any is_address instruction.now.meaning.operands }
@@ -97,6 +99,15 @@ fn standard(choice: &RowChoice, instruction: &Instruction) -> Option<Spelling>
     }
 }
 
+/// Whether a form has no groups.
+#[tactic(auto, unfolding(vex_rows::specs::Groups::groups))]
+#[inline(always)]
+fn is_alone(form: Form) -> bool
+    ensures { (l : ℕ) → result ≡ (length (groups form l) == 0) }
+{
+    matches!(row_of_form(form).groups, Few::Zero)
+}
+
 /// The reg fields that a form allows where it has groups, each with its opcode, and none where it has no groups.
 #[tactic(auto, unfolding(vex_rows::specs::Groups::groups))]
 fn groups_of(form: Form) -> ArrayVec<(u8, Opcode), 4>
@@ -111,14 +122,14 @@ fn standard_of_group(
     entry: &Entry,
     w: bool,
     l: bool,
-    glance: &Glance,
+    memory: bool,
     group: (u8, Opcode),
     instruction: &Instruction,
 ) -> Option<Spelling>
     requires listed { Among entry.now table }
     requires group { Among group (groups entry.now.form (if l then 1 else 0)) }
-    requires glance { IsGlance instruction.now.meaning.operands glance.now }
-    ensures { result ≡ standard_of (row_for entry.now w l glance.now.memory group.0) instruction.now.meaning }
+    requires memory { memory ≡ list_any is_address instruction.now.meaning.operands }
+    ensures { result ≡ standard_of (row_for entry.now w l memory group.0) instruction.now.meaning }
 {
     if !instruction.opcode().is(group.1) {
         return None;
@@ -127,41 +138,29 @@ fn standard_of_group(
         entry: *entry,
         w,
         l,
-        memory: glance.memory,
+        memory,
         group: group.0,
     };
     standard(&choice, instruction)
 }
 
-/// The standard spelling by the first row of an entry at that W and L that can give an instruction.
+/// The standard spelling by the first row of an entry with groups, at that W and L, that can give an instruction.
+#[inline(never)]
 fn standard_by_group(
     entry: &Entry,
     w: bool,
     l: bool,
-    glance: &Glance,
-    reg_groups: &[(u8, Opcode)],
+    memory: bool,
     instruction: &Instruction,
 ) -> Option<Spelling>
     requires listed { Among entry.now table }
-    requires groups { (l : ℕ) → reg_groups.now ≡ groups entry.now.form l }
-    requires glance { IsGlance instruction.now.meaning.operands glance.now }
+    requires grouped { (l : ℕ) → (length (groups entry.now.form l) == 0) ≡ false }
+    requires memory { memory ≡ list_any is_address instruction.now.meaning.operands }
     ensures { result ≡ first instruction.now.meaning (choices_of_l entry.now w (if l then 1 else 0)) }
 {
-    if is_excluded(entry, w, l, glance) {
-        return None;
-    }
-    if reg_groups.is_empty() {
-        let choice = RowChoice {
-            entry: *entry,
-            w,
-            l,
-            memory: glance.memory,
-            group: 0,
-        };
-        return standard(&choice, instruction);
-    }
-    for group in reg_groups {
-        let found = standard_of_group(entry, w, l, glance, *group, instruction);
+    let reg_groups = groups_of(entry.form);
+    for group in reg_groups.as_slice() {
+        let found = standard_of_group(entry, w, l, memory, *group, instruction);
         if found.is_some() {
             return found;
         }
@@ -169,54 +168,67 @@ fn standard_by_group(
     None
 }
 
+/// The standard spelling by the first row of an entry at that W and L that can give an instruction.
+#[inline(always)]
+fn standard_at(
+    entry: &Entry,
+    w: bool,
+    l: bool,
+    memory: bool,
+    instruction: &Instruction,
+) -> Option<Spelling>
+    requires listed { Among entry.now table }
+    requires memory { memory ≡ list_any is_address instruction.now.meaning.operands }
+    ensures { result ≡ first instruction.now.meaning (choices_of_l entry.now w (if l then 1 else 0)) }
+{
+    if is_excluded(entry, w, l, memory, instruction) {
+        return None;
+    }
+    if !is_alone(entry.form) {
+        return standard_by_group(entry, w, l, memory, instruction);
+    }
+    let choice = RowChoice {
+        entry: *entry,
+        w,
+        l,
+        memory,
+        group: 0,
+    };
+    standard(&choice, instruction)
+}
+
 /// The standard spelling by the first row of an entry at that W that can give an instruction.
+#[inline(always)]
 fn standard_by_l(
     entry: &Entry,
     w: bool,
-    glance: &Glance,
-    reg_groups: &[(u8, Opcode)],
+    memory: bool,
     instruction: &Instruction,
 ) -> Option<Spelling>
     requires listed { Among entry.now table }
-    requires groups { (l : ℕ) → reg_groups.now ≡ groups entry.now.form l }
-    requires glance { IsGlance instruction.now.meaning.operands glance.now }
+    requires memory { memory ≡ list_any is_address instruction.now.meaning.operands }
     ensures { result ≡ first instruction.now.meaning (choices_of_w entry.now w) }
 {
-    let found = standard_by_group(entry, w, false, glance, reg_groups, instruction);
+    let found = standard_at(entry, w, false, memory, instruction);
     if found.is_some() {
         return found;
     }
-    standard_by_group(entry, w, true, glance, reg_groups, instruction)
+    standard_at(entry, w, true, memory, instruction)
 }
 
-/// The shortest standard spelling of an instruction by the rows of an entry with these groups, where there is one. That
-/// is the one of the first row that can give it: the rows differ in length by W alone, and those with W 0 come first.
-fn standard_by_w(
-    entry: &Entry,
-    glance: &Glance,
-    reg_groups: &[(u8, Opcode)],
-    instruction: &Instruction,
-) -> Option<Spelling>
+/// The shortest standard spelling of an instruction by the rows of an entry, where there is one. That is the one of the
+/// first row that can give it: the rows differ in length by W alone, and those with W 0 come first.
+#[inline(always)]
+fn standard_by_entry(entry: &Entry, memory: bool, instruction: &Instruction) -> Option<Spelling>
     requires listed { Among entry.now table }
-    requires groups { (l : ℕ) → reg_groups.now ≡ groups entry.now.form l }
-    requires glance { IsGlance instruction.now.meaning.operands glance.now }
+    requires memory { memory ≡ list_any is_address instruction.now.meaning.operands }
     ensures { result ≡ best instruction.now.meaning (choices entry.now) }
 {
-    let found = standard_by_l(entry, false, glance, reg_groups, instruction);
+    let found = standard_by_l(entry, false, memory, instruction);
     if found.is_some() {
         return found;
     }
-    standard_by_l(entry, true, glance, reg_groups, instruction)
-}
-
-/// The shortest standard spelling of an instruction by the rows of an entry, where there is one.
-fn standard_by_entry(entry: &Entry, glance: &Glance, instruction: &Instruction) -> Option<Spelling>
-    requires listed { Among entry.now table }
-    requires glance { IsGlance instruction.now.meaning.operands glance.now }
-    ensures { result ≡ best instruction.now.meaning (choices entry.now) }
-{
-    let groups = groups_of(entry.form);
-    standard_by_w(entry, glance, groups.as_slice(), instruction)
+    standard_by_l(entry, true, memory, instruction)
 }
 
 /// The shorter of two spellings that may be missing, the first where both are equally long.
@@ -242,10 +254,10 @@ fn standard_by_entries(entries: &[Entry], instruction: &Instruction) -> Option<S
     requires { (entry : Entry) → Among entry entries.now → Among entry table }
     ensures { result ≡ best instruction.now.meaning (flat_map choices entries.now) }
 {
-    let glance = Glance::of(instruction, has_address(instruction));
+    let memory = has_address(instruction);
     let mut shortest = None;
     for entry in entries {
-        let found = standard_by_entry(entry, &glance, instruction);
+        let found = standard_by_entry(entry, memory, instruction);
         shortest = shorter(shortest, found);
     }
     shortest

@@ -1,73 +1,23 @@
 //! Passing over rows that an instruction excludes at once: those at a W or an L that the entry's rules refuse, or at
-//! which its first operands are of other banks or of another kind.
+//! which its operands are of another number, of other banks or of another kind.
 
-ghost use Rattle.std.specs.Prelude.{◌≡◌, IsTrue, Option, ℕ, None, if◌then◌else◌};
+ghost use Rattle.std.specs.Prelude.{◌≡◌, IsTrue, None, Some, if◌then◌else◌};
 ghost use Rattle.std.specs.List.{list_any};
-ghost use Rattle.x86_operand.specs.Kind.{Kind};
-ghost use Rattle.x86_operand.specs.Meaning.{Meaning, operand_meaning};
+ghost use Rattle.x86_operand.specs.Meaning.{operand_meaning};
 ghost use Rattle.vex_rows.specs.Few.{items};
-ghost use Rattle.vex_rows.specs.Row.{Row, row_at};
-ghost use Rattle.vex_forms.specs.Slots.{bank_at};
-ghost use Rattle.vex_encode.specs.Encode.{is_address, standard_of};
-ghost use Rattle.vex_encode.specs.Excluded.{IsGlance, RuleFits, RulesFit, is_optional, shown};
+ghost use Rattle.vex_rows.specs.Row.{Among, Row, choices_of_l};
+ghost use Rattle.vex_rows.specs.Table.{table};
+ghost use Rattle.vex_forms.specs.Slots.{bank_at, bytes_at, size_at};
+ghost use Rattle.vex_encode.specs.Assembly.{IsRegisterOf};
+ghost use Rattle.vex_encode.specs.Encode.{first, is_address};
+ghost use Rattle.vex_encode.specs.Excluded.{FitsE, RuleFits, RulesFit, is_missing, is_optional};
 
-use vex_rows::{BankRule, Entry, Few, SlotRule, row_of_form};
+use vex_rows::{BankRule, ByteCount, Entry, Few, FormRow, SizeRule, SlotRule, row_of_form};
 use x86_operand::RegisterBank::{D, Q, X, Y};
-use x86_operand::{Instruction, Operand, RegisterBank};
-
-/// What an operand shows at once.
-#[derive(Clone, Copy, PartialEq, Eq, Debug)]
-pub enum Shown {
-    /// A register of this bank.
-    Register(RegisterBank),
-    /// An immediate.
-    Immediate,
-    /// An address, or nothing.
-    Other,
-}
-
-impl Shown {
-    /// What an operand shows.
-    fn of(operand: Operand) -> Shown
-        ensures { result ≡ shown (operand_meaning operand) }
-    {
-        match operand {
-            Operand::Register { reg } => Shown::Register(reg.bank()),
-            Operand::ImmediateI8 { .. } | Operand::ImmediateU8 { .. } => Shown::Immediate,
-            Operand::MemDeref { .. } | Operand::Memory { .. } | Operand::Nothing => Shown::Other,
-        }
-    }
-}
-
-/// What an instruction shows at once.
-#[derive(Clone, Copy, Debug)]
-pub struct Glance {
-    /// Whether one of its operands is an address.
-    pub memory: bool,
-    /// The first operand.
-    pub first: Shown,
-    /// The second operand.
-    pub second: Shown,
-    /// The third operand.
-    pub third: Shown,
-}
-
-impl Glance {
-    /// What an instruction shows, where `memory` says whether one of its operands is an address.
-    pub fn of(instruction: &Instruction, memory: bool) -> Glance
-        requires { memory ≡ list_any is_address instruction.now.meaning.operands }
-        ensures { IsGlance instruction.now.meaning.operands result }
-    {
-        Glance {
-            memory,
-            first: Shown::of(instruction.operand(0)),
-            second: Shown::of(instruction.operand(1)),
-            third: Shown::of(instruction.operand(2)),
-        }
-    }
-}
+use x86_operand::{Instruction, MemoryAccessSize, Operand, RegisterBank};
 
 /// Whether a bank can be the one that a form names, at a W and an L. It is said to be where the opcode decides.
+#[inline(always)]
 fn bank_may_be(rule: BankRule, w: bool, l: bool, bank: RegisterBank) -> bool
     ensures { (row : Row) → row.w ≡ w → row.l ≡ (if l then 1 else 0) → bank ≡ bank_at row rule → IsTrue result }
 {
@@ -83,66 +33,185 @@ fn bank_may_be(rule: BankRule, w: bool, l: bool, bank: RegisterBank) -> bool
 }
 
 /// Whether an operand can be a register of the bank that a form names.
-fn may_be_of_bank(rule: BankRule, w: bool, l: bool, operand: Shown) -> bool
+#[inline(always)]
+fn may_be_of_bank(rule: BankRule, w: bool, l: bool, operand: Operand) -> bool
     ensures { (row : Row) → row.w ≡ w → row.l ≡ (if l then 1 else 0)
-        → operand ≡ Shown.Register (bank_at row rule) → IsTrue result }
+        → IsRegisterOf (bank_at row rule) (operand_meaning operand) → IsTrue result }
 {
     match operand {
-        Shown::Register(bank) => bank_may_be(rule, w, l, bank),
-        Shown::Immediate | Shown::Other => false,
+        Operand::Register { reg } => reg.num() <= 15 && bank_may_be(rule, w, l, reg.bank()),
+        _ => false,
     }
 }
 
-/// Whether an operand can stand at the slot that a form names.
-fn rule_may_fit(rule: SlotRule, w: bool, l: bool, memory: bool, operand: Shown) -> bool
-    ensures { (row : Row) → row.w ≡ w → row.l ≡ (if l then 1 else 0) → RuleFits row memory rule operand → IsTrue result }
+/// Whether an operand can be the operand E, in memory or in a register of the bank that a form names.
+#[inline(always)]
+fn e_may_fit(rule: BankRule, w: bool, l: bool, memory: bool, operand: Operand) -> bool
+    ensures { (row : Row) → row.w ≡ w → row.l ≡ (if l then 1 else 0)
+        → FitsE memory (bank_at row rule) (operand_meaning operand) → IsTrue result }
+{
+    match operand {
+        Operand::Register { reg } => {
+            !memory && reg.num() <= 15 && bank_may_be(rule, w, l, reg.bank())
+        }
+        Operand::MemDeref { .. } | Operand::Memory { .. } => memory,
+        _ => false,
+    }
+}
+
+/// Whether an operand can stand at the slot that a form names. A slot that isn't there takes any.
+#[inline(always)]
+fn rule_may_fit(rule: SlotRule, w: bool, l: bool, memory: bool, operand: Operand) -> bool
+    ensures { (row : Row) → row.w ≡ w → row.l ≡ (if l then 1 else 0) → RuleFits row memory rule (operand_meaning operand)
+        → IsTrue result }
 {
     match rule {
         SlotRule::G(bank) => may_be_of_bank(bank, w, l, operand),
         SlotRule::V(bank) => may_be_of_bank(bank, w, l, operand),
         SlotRule::R4(bank) => may_be_of_bank(bank, w, l, operand),
-        SlotRule::E(bank) => match operand {
-            Shown::Register(found) => !memory && bank_may_be(bank, w, l, found),
-            Shown::Immediate => false,
-            Shown::Other => true,
-        },
-        SlotRule::VInRegister(_) | SlotRule::U8 | SlotRule::I8 => true,
+        SlotRule::VInRegister(_) if memory => true,
+        SlotRule::VInRegister(bank) => may_be_of_bank(bank, w, l, operand),
+        SlotRule::E(bank) => e_may_fit(bank, w, l, memory, operand),
+        SlotRule::U8 => matches!(operand, Operand::ImmediateU8 { .. }),
+        SlotRule::I8 => matches!(operand, Operand::ImmediateI8 { .. }),
     }
 }
 
-/// Whether a rule has a slot in some rows alone.
+/// Whether a rule has a slot in register rows alone.
+#[inline(always)]
 fn is_optional(rule: SlotRule) -> bool
     ensures { result ≡ is_optional rule }
 {
     matches!(rule, SlotRule::VInRegister(_))
 }
 
-/// Whether the first operands can stand at the slots that a form names first, up to one that some rows alone have.
-fn rules_may_fit(rules: Few<SlotRule>, w: bool, l: bool, glance: &Glance) -> bool
-    ensures { (row : Row) → row.w ≡ w → row.l ≡ (if l then 1 else 0) →
-        RulesFit row glance.now.memory (items rules) glance.now.first glance.now.second glance.now.third → IsTrue result }
+/// Whether a rule has no slot in a row whose operand E is in memory or not.
+#[inline(always)]
+fn is_missing(rule: SlotRule, memory: bool) -> bool
+    ensures { result ≡ is_missing memory rule }
 {
+    memory && is_optional(rule)
+}
+
+/// Whether the operands can stand at the slots that a form names. `memory` says whether one of them is an address.
+fn rules_may_fit(
+    rules: Few<SlotRule>,
+    w: bool,
+    l: bool,
+    memory: bool,
+    instruction: &Instruction,
+) -> bool
+    ensures { (row : Row) → row.w ≡ w → row.l ≡ (if l then 1 else 0)
+        → RulesFit row memory (items rules) instruction.now.meaning.operands → IsTrue result }
+{
+    let count = instruction.operand_count();
+    let first = instruction.operand(0);
+    let second = instruction.operand(1);
+    let third = instruction.operand(2);
     match rules {
-        Few::Zero => true,
-        Few::One(a) => rule_may_fit(a, w, l, glance.memory, glance.first),
+        Few::Zero => count == 0,
+        Few::One(a) => is_optional(a) || count == 1 && rule_may_fit(a, w, l, memory, first),
         Few::Two(a, b) => {
-            rule_may_fit(a, w, l, glance.memory, glance.first)
-                && (is_optional(a) || rule_may_fit(b, w, l, glance.memory, glance.second))
+            is_optional(a)
+                || is_optional(b)
+                || count == 2
+                    && rule_may_fit(a, w, l, memory, first)
+                    && rule_may_fit(b, w, l, memory, second)
         }
-        Few::Three(a, b, c) | Few::Four(a, b, c, _) => {
-            rule_may_fit(a, w, l, glance.memory, glance.first)
-                && (is_optional(a) || rule_may_fit(b, w, l, glance.memory, glance.second))
-                && (is_optional(a)
-                    || is_optional(b)
-                    || rule_may_fit(c, w, l, glance.memory, glance.third))
+        Few::Three(a, b, c) if is_missing(b, memory) => {
+            is_optional(a)
+                || is_optional(c)
+                || count == 2
+                    && rule_may_fit(a, w, l, memory, first)
+                    && rule_may_fit(c, w, l, memory, second)
+        }
+        Few::Three(a, b, c) => {
+            is_optional(a)
+                || is_optional(c)
+                || count == 3
+                    && rule_may_fit(a, w, l, memory, first)
+                    && rule_may_fit(b, w, l, memory, second)
+                    && rule_may_fit(c, w, l, memory, third)
+        }
+        Few::Four(a, b, c, d) => {
+            is_optional(a)
+                || is_optional(b)
+                || is_optional(c)
+                || is_optional(d)
+                || rule_may_fit(a, w, l, memory, first)
+                    && rule_may_fit(b, w, l, memory, second)
+                    && rule_may_fit(c, w, l, memory, third)
+                    && rule_may_fit(d, w, l, memory, instruction.operand(3))
         }
     }
 }
 
-/// Whether no row of an entry at that W and L can give an instruction, as is seen at once.
-pub fn is_excluded(entry: &Entry, w: bool, l: bool, glance: &Glance) -> bool
-    ensures { IsTrue result → (m : Meaning) → IsGlance m.operands glance.now → (kind : Kind) (group : Option ℕ)
-        → standard_of (row_at entry.now w (if l then 1 else 0) kind group) m ≡ None }
+/// Whether there is a memory operand and it can have that many bytes.
+#[inline(always)]
+fn is_of_bytes(size: Option<MemoryAccessSize>, bytes: u8) -> bool
+    ensures { size ≡ Some bytes → IsTrue result }
+{
+    match size {
+        Some(size) => match size.bytes_size() {
+            Some(found) => found == bytes,
+            None => true,
+        },
+        None => false,
+    }
+}
+
+/// Whether the memory operand can have the number of bytes that a form names, at a W and an L.
+#[inline(always)]
+fn count_may_be(count: ByteCount, w: bool, l: bool, size: Option<MemoryAccessSize>) -> bool
+    ensures { (row : Row) → row.w ≡ w → row.l ≡ (if l then 1 else 0) → size ≡ bytes_at row count → IsTrue result }
+{
+    match count {
+        ByteCount::Nothing => size.is_none(),
+        ByteCount::Is(n) => is_of_bytes(size, n),
+        ByteCount::ByL(narrow, wide) => is_of_bytes(size, if l { wide } else { narrow }),
+        ByteCount::ByW(narrow, wide) => is_of_bytes(size, if w { wide } else { narrow }),
+    }
+}
+
+/// Whether the operand E can have that size in memory, at a W and an L. It is said to where the opcode decides.
+#[inline(always)]
+fn size_may_be(rule: SizeRule, w: bool, l: bool, size: Option<MemoryAccessSize>) -> bool
+    ensures { (row : Row) → row.w ≡ w → row.l ≡ (if l then 1 else 0) → size ≡ size_at row rule → IsTrue result }
+{
+    match rule {
+        SizeRule::Always(count) => count_may_be(count, w, l, size),
+        SizeRule::ByOpcode(_, _) => true,
+    }
+}
+
+/// Whether a form can have a memory operand of that size, at a W and an L, where its operand E is in memory or not.
+#[tactic(auto, unfolding(vex_forms::specs::Slots::size_of))]
+#[inline(always)]
+fn form_may_have(
+    form: &FormRow,
+    w: bool,
+    l: bool,
+    memory: bool,
+    size: Option<MemoryAccessSize>,
+) -> bool
+    ensures { (row : Row) → row.w ≡ w → row.l ≡ (if l then 1 else 0)
+        → size ≡ (if memory then size_at row form.now.size else bytes_at row form.now.register_size) → IsTrue result }
+{
+    if memory {
+        size_may_be(form.size, w, l, size)
+    } else {
+        count_may_be(form.register_size, w, l, size)
+    }
+}
+
+/// Whether no row of an entry at that W and L can give an instruction, as is seen at once: it has the EVEX mark, or
+/// the rules of the entry or the slots and sizes of its form refuse it. `memory` says whether one of its operands is an
+/// address.
+#[inline(always)]
+pub fn is_excluded(entry: &Entry, w: bool, l: bool, memory: bool, instruction: &Instruction) -> bool
+    requires listed { Among entry.now table }
+    requires memory { memory ≡ list_any is_address instruction.now.meaning.operands }
+    ensures { IsTrue result → first instruction.now.meaning (choices_of_l entry.now w (if l then 1 else 0)) ≡ None }
 {
     if !entry.w.allows(w) {
         return true;
@@ -150,5 +219,12 @@ pub fn is_excluded(entry: &Entry, w: bool, l: bool, glance: &Glance) -> bool
     if !entry.l.allows(l) {
         return true;
     }
-    !rules_may_fit(row_of_form(entry.form).slots, w, l, glance)
+    if instruction.is_evex() {
+        return true;
+    }
+    let form = row_of_form(entry.form);
+    if !form_may_have(form, w, l, memory, instruction.mem_size()) {
+        return true;
+    }
+    !rules_may_fit(form.slots, w, l, memory, instruction)
 }

@@ -96,6 +96,7 @@ pub fn placed_fits(
 
 /// What the operands of an instruction ask for, where the row of a layout, with this kind of operand E, can give it.
 #[tactic(auto, unfolding(vex_rows::specs::Row::mark_of))]
+#[inline(always)]
 pub fn given(kind: Kind, layout: &RowLayout, instruction: &Instruction) -> Option<Asked>
     ensures gives { (row : Row) → IsLayout row layout.now → row.kind ≡ kind_seen kind
         → (IsSome result ↔ CanGive row instruction.now.meaning) }

@@ -12,6 +12,25 @@ use vex_forms::OperandFields;
 use vex_rows::Prefix;
 use x86_address::AddressBytes;
 
+/// Appends the bytes of a prefix. A call that copies so few costs more than to push them.
+fn push_prefix(spelling: &mut Spelling, prefix: &[u8])
+    requires { length spelling.old + length prefix.now ≤ 11 }
+    ensures { spelling.new ≡ spelling.old ++ prefix.now }
+{
+    match prefix {
+        [first, second] => {
+            spelling.push(*first);
+            spelling.push(*second);
+        }
+        [first, second, third] => {
+            spelling.push(*first);
+            spelling.push(*second);
+            spelling.push(*third);
+        }
+        _ => spelling.extend(prefix),
+    }
+}
+
 /// Appends the bytes from ModRM on, with the field reg in it.
 fn push_place(spelling: &mut Spelling, reg: u8, place: &[u8])
     requires reg { reg < 8 }
@@ -21,7 +40,10 @@ fn push_place(spelling: &mut Spelling, reg: u8, place: &[u8])
 {
     if let [modrm, rest @ ..] = place {
         spelling.push(*modrm + 8 * reg);
-        spelling.extend(rest);
+        // A call that copies nothing costs more than this test.
+        if !rest.is_empty() {
+            spelling.extend(rest);
+        }
     }
 }
 
@@ -41,7 +63,7 @@ pub fn spell(
         ++ byte ∷ (with_reg numbers.now.reg place.now.bytes.items ++ imm_bytes has_imm numbers.now.imm) }
 {
     let mut spelling = Spelling::new();
-    spelling.extend(shortest_prefix(prefix).as_slice());
+    push_prefix(&mut spelling, shortest_prefix(prefix).as_slice());
     spelling.push(byte);
     push_place(&mut spelling, numbers.reg, place.bytes.as_slice());
     if has_imm {

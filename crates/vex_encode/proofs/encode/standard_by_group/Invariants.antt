@@ -6,5 +6,5 @@ use Rattle.vex_encode.proofs.encode.standard_by_group.Given as goal
 
 abbrev pub invariant-loop-group : goal.invariant-loop-group
 invariant-loop-group l =
-    first l.instruction.meaning (map (λ g. row_for l.entry l.w l.l l.glance.memory g.0) l.reg_groups)
-    ≡ first l.instruction.meaning (map (λ g. row_for l.entry l.w l.l l.glance.memory g.0) (drop l.group-index l.reg_groups))
+    first l.instruction.meaning (map (λ g. row_for l.entry l.w l.l l.memory g.0) l.group-items)
+    ≡ first l.instruction.meaning (map (λ g. row_for l.entry l.w l.l l.memory g.0) (drop l.group-index l.group-items))

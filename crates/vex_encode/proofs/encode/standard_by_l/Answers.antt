@@ -9,15 +9,15 @@ pub returns-then-is_some : goal.returns-then-is_some
 returns-then-is_some c =
     let m = c.args.instruction.now.meaning in
     let later = first m (choices_of_l c.args.entry.now c.args.w 1) in
-    first_found c.standard_by_group-found.result later (sym c.is_some.ensures ∙ c.if-is_some.true)
-    ∙ ap (λ o. first_of o later) c.standard_by_group-found.ensures
+    first_found c.standard_at-found.result later (sym c.is_some.ensures ∙ c.if-is_some.true)
+    ∙ ap (λ o. first_of o later) c.standard_at-found.ensures
     ∙ sym (first_of_two m (choices_of_l c.args.entry.now c.args.w) 0 1)
 
 pub returns : goal.returns
 returns c =
     let m = c.args.instruction.now.meaning in
     let later = first m (choices_of_l c.args.entry.now c.args.w 1) in
-    c.standard_by_group.ensures
-    ∙ first_missing c.standard_by_group-found.result later (sym c.is_some.ensures ∙ c.if-is_some.false)
-    ∙ ap (λ o. first_of o later) c.standard_by_group-found.ensures
+    c.standard_at.ensures
+    ∙ first_missing c.standard_at-found.result later (sym c.is_some.ensures ∙ c.if-is_some.false)
+    ∙ ap (λ o. first_of o later) c.standard_at-found.ensures
     ∙ sym (first_of_two m (choices_of_l c.args.entry.now c.args.w) 0 1)

@@ -4,7 +4,7 @@ use Rattle.vex_rows.specs.Row.{choices_of_w}
 use Rattle.vex_encode.specs.Encode.{first, first_of}
 use Rattle.vex_encode.proofs.Entries.{best_of_entry}
 use Rattle.vex_encode.proofs.Search.{first_found, first_missing}
-use Rattle.vex_encode.proofs.encode.standard_by_w.Goals as goal
+use Rattle.vex_encode.proofs.encode.standard_by_entry.Goals as goal
 
 pub returns-then-is_some : goal.returns-then-is_some
 returns-then-is_some c =
