@@ -19,8 +19,8 @@ reads_all m (Err error) = false
 unfoldable pub is_spelling : Meaning → List ℕ → Bool
 is_spelling m b = reads_all m (walk b)
 
--- the strings that begin with one of n numbers, from k on, and go on with one of the tails, by the first number and then in
--- the order of the tails
+-- the strings that begin with one of n numbers, from k on, and go on with one of the tails, by the first number and then
+-- in the order of the tails
 unfoldable pub joined : List (List ℕ) → ℕ → ℕ → List (List ℕ)
 joined tails n k = flat_map (λ first. map (λ tail. first ∷ tail) tails) (range_with_len k n)
 

@@ -30,7 +30,7 @@ abbrev pub spellings_unless_blocked : List ℕ → Option (DecodeError × ℕ) �
 spellings_unless_blocked bytes None = spellings_of_reading (walk bytes)
 spellings_unless_blocked bytes (Some error) = error_line (decode_error_name error.0)
 
--- the lines of some bytes under settings: the error that blocks them, or all spellings of the meaning of the one that begins
--- them
+-- the lines of some bytes under settings: the error that blocks them, or all spellings of the meaning of the one that
+-- begins them
 unfoldable pub spelling_lines : List Bool → List ℕ → List ℕ
 spelling_lines settings bytes = spellings_unless_blocked bytes (blocked settings bytes)

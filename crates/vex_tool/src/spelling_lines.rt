@@ -1,6 +1,6 @@
 //! The lines of all spellings of the instruction that begins some code.
 
-ghost use Rattle.std.specs.Prelude.{◌≡◌, flat_map};
+ghost use Rattle.std.specs.Prelude.{flat_map};
 ghost use Rattle.vex_list.specs.AllSpellings.{all_spellings};
 ghost use Rattle.vex_tool.specs.Ends.{Writes};
 ghost use Rattle.vex_tool.specs.SpellingLines.{lines_of_meaning, spelling_line, spelling_lines};
@@ -34,8 +34,8 @@ fn write_all_spellings<K: Sink>(instruction: &Instruction, sink: &mut K) -> Resu
     sink.write_all(b"end\n")
 }
 
-/// Decodes the beginning of these bytes under settings, and writes a line for each spelling of its meaning and one for the
-/// end, or one that names the error, in one write each. `Failed` where a write of the sink fails.
+/// Decodes the beginning of these bytes under settings, and writes a line for each spelling of its meaning and one for
+/// the end, or one that names the error, in one write each. `Failed` where a write of the sink fails.
 pub fn write_spellings<K: Sink>(
     settings: &InstDecoder,
     bytes: &[u8],
