@@ -1,12 +1,14 @@
 -- The order of byte strings, the spellings of a choice and a list of all, computed at examples.
-use Rattle.std.specs.Prelude.{◌≡◌, refl, ℕ, ◌==◌, Bool, true, false, ◌&&◌, List, [], ◌∷◌, length, find, Option, Some, None, Result, Ok, Err}
+use Rattle.std.specs.Prelude.{◌≡◌, refl, ℕ, ◌==◌, Bool, true, false, ◌&&◌, List, [], ◌∷◌, length, find, Some, None}
+use Rattle.std.specs.Prelude.{Result, Ok, Err}
 use Rattle.std.specs.List.{list_all}
 use Rattle.x86_opcode.specs.Condition.{opcode_condition}
 use Rattle.x86_opcode.specs.Number.{opcode_number, same_opcode}
 use Rattle.x86_opcode.specs.declared.Opcode.TheVariants.{Integer}
 use Rattle.x86_opcode.specs.declared.IntegerOpcode.TheVariants.{VZEROUPPER}
 use Rattle.x86_operand.specs.Meaning.{Decoded, Meaning}
-use Rattle.x86_operand.specs.Same.{same_meaning, same_operands, same_operand, same_register, same_bank, same_index, same_address}
+use Rattle.x86_operand.specs.Same.{same_meaning, same_operands, same_operand, same_register, same_bank, same_index}
+use Rattle.x86_operand.specs.Same.{same_address}
 use Rattle.x86_operand.specs.declared.error.DecodeError.{DecodeError}
 use Rattle.x86_settings.specs.Bits.{all_bits}
 use Rattle.x86_permit.specs.Permission.{permits}
@@ -37,7 +39,8 @@ use Rattle.vex_list.specs.declared.choices.Width.TheVariants.{NoBytes}
 by_first_byte : is_before (0xC4 ∷ 0xE1 ∷ 0xF8 ∷ 0x77 ∷ []) (0xC5 ∷ 0x78 ∷ 0x77 ∷ []) ≡ true
 by_first_byte = refl
 
-by_third_byte : is_before (0xC4 ∷ 0xA3 ∷ 0x71 ∷ 0x4A ∷ 0xC2 ∷ 0x3F ∷ []) (0xC4 ∷ 0xA3 ∷ 0x71 ∷ 0x4A ∷ 0xC2 ∷ 0x30 ∷ []) ≡ false
+by_third_byte : is_before (0xC4 ∷ 0xA3 ∷ 0x71 ∷ 0x4A ∷ 0xC2 ∷ 0x3F ∷ []) (0xC4 ∷ 0xA3 ∷ 0x71 ∷ 0x4A ∷ 0xC2 ∷ 0x30 ∷
+    []) ≡ false
 by_third_byte = refl
 
 -- a proper prefix comes first
@@ -90,7 +93,9 @@ abbrev zeroes : Meaning
 zeroes = record { evex = false; opcode = Integer VZEROUPPER; operands = []; size = None }
 
 spelled : list_all (λ b. reads_all zeroes b (first_of_bytes all_bits b)) all ≡ true
-unfolding first_of_bytes walk walk_form entry_of has_key table steps form_row groups has_groups mark_of opcode_of has_imm permits opcode_condition slots index_bank gathers size_of sizes v_rule gives same_meaning same_operands same_operand same_register same_bank same_index same_address same_opcode opcode_number
+unfolding first_of_bytes walk walk_form entry_of has_key table steps form_row groups has_groups mark_of opcode_of
+    has_imm permits opcode_condition slots index_bank gathers size_of sizes v_rule gives same_meaning same_operands
+    same_operand same_register same_bank same_index same_address same_opcode opcode_number
 spelled = refl
 
 -- after the last there is none
@@ -116,20 +121,27 @@ choice form r x b vvvv low =
 -- VBLENDVPS with X, and the low half of its immediate 0
 least_low : chosen_by (choice ThreeBytes false true false 1 0) (walk (0xC4 ∷ 0xE3 ∷ 0x71 ∷ 0x4A ∷ 0xC2 ∷ 0x35 ∷ []))
     ≡ 0xC4 ∷ 0xA3 ∷ 0x71 ∷ 0x4A ∷ 0xC2 ∷ 0x30 ∷ []
-unfolding made walk walk_form entry_of has_key table steps form_row groups has_groups mark_of opcode_of has_imm slots index_bank gathers size_of sizes v_rule gives
+unfolding made walk walk_form entry_of has_key table steps form_row groups has_groups mark_of opcode_of has_imm slots
+    index_bank gathers size_of sizes v_rule gives
 least_low = refl
 
 -- the same without X, and the low half 15
-greatest_low : chosen_by (choice ThreeBytes false false false 1 15) (walk (0xC4 ∷ 0xE3 ∷ 0x71 ∷ 0x4A ∷ 0xC2 ∷ 0x35 ∷ []))
+greatest_low : chosen_by (choice ThreeBytes false false false 1 15) (walk (0xC4 ∷ 0xE3 ∷ 0x71 ∷ 0x4A ∷ 0xC2 ∷ 0x35 ∷
+    []))
     ≡ 0xC4 ∷ 0xE3 ∷ 0x71 ∷ 0x4A ∷ 0xC2 ∷ 0x3F ∷ []
-unfolding made walk walk_form entry_of has_key table steps form_row groups has_groups mark_of opcode_of has_imm slots index_bank gathers size_of sizes v_rule gives
+unfolding made walk walk_form entry_of has_key table steps form_row groups has_groups mark_of opcode_of has_imm slots
+    index_bank gathers size_of sizes v_rule gives
 greatest_low = refl
 
 -- VZEROUPPER with R, X and B, and with R in a prefix of two bytes
-all_bits_set : chosen_by (choice ThreeBytes true true true 0 0) (walk (0xC5 ∷ 0xF8 ∷ 0x77 ∷ [])) ≡ 0xC4 ∷ 0x01 ∷ 0x78 ∷ 0x77 ∷ []
-unfolding made walk walk_form entry_of has_key table steps form_row groups has_groups mark_of opcode_of has_imm slots index_bank gathers size_of sizes v_rule gives
+all_bits_set : chosen_by (choice ThreeBytes true true true 0 0) (walk (0xC5 ∷ 0xF8 ∷ 0x77 ∷ [])) ≡ 0xC4 ∷ 0x01 ∷ 0x78 ∷
+    0x77 ∷ []
+unfolding made walk walk_form entry_of has_key table steps form_row groups has_groups mark_of opcode_of has_imm slots
+    index_bank gathers size_of sizes v_rule gives
 all_bits_set = refl
 
-of_two_bytes : chosen_by (choice TwoBytes true false false 0 0) (walk (0xC5 ∷ 0xF8 ∷ 0x77 ∷ [])) ≡ 0xC5 ∷ 0x78 ∷ 0x77 ∷ []
-unfolding made walk walk_form entry_of has_key table steps form_row groups has_groups mark_of opcode_of has_imm slots index_bank gathers size_of sizes v_rule gives
+of_two_bytes : chosen_by (choice TwoBytes true false false 0 0) (walk (0xC5 ∷ 0xF8 ∷ 0x77 ∷ [])) ≡ 0xC5 ∷ 0x78 ∷ 0x77 ∷
+    []
+unfolding made walk walk_form entry_of has_key table steps form_row groups has_groups mark_of opcode_of has_imm slots
+    index_bank gathers size_of sizes v_rule gives
 of_two_bytes = refl
