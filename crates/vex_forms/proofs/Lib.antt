@@ -2,7 +2,7 @@ pub mod SizesFit
 pub mod Choices
 pub mod Choosing
 pub mod Fit
-mod Mapped
+mod Adding
 mod MeaningGiven
 pub mod Operating
 pub mod Instructing

@@ -1,7 +1,7 @@
 -- Lemmas that the model of `Instruction` needs, and that no contract cites: the four places of an instruction give back
 -- the operands that they hold.
-use Rattle.std.proofs.Common.{◌≡◌, ℕ, zero, suc, ◌≤◌, ℤ, pos, negsuc, List, [], ◌∷◌, Option, Some, None, length, take, map, get_or, refl, ap, ◌∙◌, arith}
-use Rattle.std.proofs.lemmas.List.{length-map, length-take-le}
+use Rattle.std.proofs.Common.{◌≡◌, ℕ, zero, suc, ◌≤◌, ℤ, pos, negsuc, List, [], ◌∷◌, Option, Some, None, ◌+◌, ◌<◌, ◌++◌, length, take, set, map, get_or, refl, ap, sym, ◌∙◌, arith}
+use Rattle.std.proofs.lemmas.List.{length-map, length-take-le, map-append, take_more_set}
 use Rattle.x86_operand.specs.declared.address.Index.{Index}
 use Rattle.x86_operand.specs.declared.address.Operand.{Operand}
 use Rattle.x86_operand.specs.declared.address.Operand.TheVariants.{Nothing}
@@ -78,4 +78,31 @@ meaning-kept count places i within kept =
     ap operand_meaning (get_or-kept count places i within kept)
     ∙ meaning-kept_operand (operand_at (map operand_meaning (take count places)) i)
 
-pub ruleset places = (length-kept, meanings-kept, get_or-kept, meaning-kept)
+-- one more operand stands in the first free place
+set-four_places : (xs : List OperandMeaning) (m : OperandMeaning) → length xs < 4 → set (four_places xs) (length xs) (kept_operand m) ≡ four_places (xs ++ m ∷ [])
+unfolding four_places
+set-four_places [] m h = refl
+set-four_places (a ∷ []) m h = refl
+set-four_places (a ∷ b ∷ []) m h = refl
+set-four_places (a ∷ b ∷ c ∷ []) m h = refl
+set-four_places (a ∷ b ∷ c ∷ d ∷ xs) m h = absurd (omega arith)
+
+-- the operands with one more are those before, and that one
+pub meanings-more : (count : ℕ) (places : List Operand) (m : OperandMeaning) → count < 4 → places ≡ four_places (map operand_meaning (take count places)) → map operand_meaning (take (count + 1) (set places count (kept_operand m))) ≡ map operand_meaning (take count places) ++ m ∷ []
+meanings-more count places m within kept =
+    let long : length places ≡ 4 = ap length kept ∙ length-four_places (map operand_meaning (take count places)) in
+    ap (map operand_meaning) (take_more_set places count (kept_operand m) (omega arith))
+    ∙ map-append operand_meaning (take count places) (kept_operand m ∷ [])
+    ∙ ap (λ last. map operand_meaning (take count places) ++ last ∷ []) (meaning-kept_operand m)
+
+-- and they are kept as operands are
+pub kept-more : (count : ℕ) (places : List Operand) (m : OperandMeaning) → count < 4 → places ≡ four_places (map operand_meaning (take count places)) → set places count (kept_operand m) ≡ four_places (map operand_meaning (take (count + 1) (set places count (kept_operand m))))
+kept-more count places m within kept =
+    let before = map operand_meaning (take count places) in
+    let long = length-kept count places (omega arith) kept in
+    ap (λ these. set these count (kept_operand m)) kept
+    ∙ ap (λ n. set (four_places before) n (kept_operand m)) (sym long)
+    ∙ set-four_places before m (rw long within)
+    ∙ ap four_places (sym (meanings-more count places m within kept))
+
+pub ruleset places = (length-kept, meanings-kept, get_or-kept, meaning-kept, meanings-more, kept-more)
