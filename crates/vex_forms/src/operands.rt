@@ -56,7 +56,8 @@ fn add_register(bank: RegisterBank, num: u8, instruction: &mut Instruction)
     ensures added { has_sixteen bank ≡ true → Adds (register (record { bank = bank; num = num })) instruction.old instruction.new }
     ensures length { instruction.new.len ≡ instruction.old.len }
 {
-    if let Some(reg) = RegSpec::of(bank, num) {
+    // The remainder is the number itself. By it the compiler knows the number to be in the banks of a row.
+    if let Some(reg) = RegSpec::of(bank, num % 16) {
         add(Operand::Register { reg }, instruction);
     }
 }

@@ -110,9 +110,8 @@ fn unsigned(imm: u8) -> Operand {
 
 #[test]
 fn operands_are_added_one_by_one(rt: HostRuntime) -> Result<(), Fail> {
-    let size = MemoryAccessSize::of(16);
     let mut made = Instruction::of(Opcode::VADDPS, true);
-    made.set_mem_size(size);
+    made.set_mem_size(MemoryAccessSize::of(16));
     let added = [
         made.push(unsigned(1)),
         made.push(unsigned(2)),
@@ -122,9 +121,12 @@ fn operands_are_added_one_by_one(rt: HostRuntime) -> Result<(), Fail> {
     ];
     assert_eq!(rt; added, [true, true, true, true, false]);
     let operands = [unsigned(1), unsigned(2), unsigned(3), unsigned(4)];
-    let wanted = Instruction::from_parts(true, Opcode::VADDPS, &operands, size).ok_or(
-        "four operands",
-    )?;
+    let wanted = Instruction::from_parts(
+        true,
+        Opcode::VADDPS,
+        &operands,
+        MemoryAccessSize::of(16),
+    ).ok_or("four operands")?;
     assert_eq!(rt; made, wanted);
     Ok(())
 }
