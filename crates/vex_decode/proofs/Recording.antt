@@ -3,13 +3,20 @@ use Rattle.std.specs.Result.{IsErrAnd}
 use Rattle.std.proofs.Common.{◌≡◌, ◌≢◌, ◌∙◌, ap, sym, subst, refl, ℕ, List, [], ◌++◌, Result, Ok, Err, IsErr, append_assoc, append-nil}
 use Rattle.x86_operand.specs.declared.error.DecodeError.{DecodeError}
 use Rattle.x86_operand.specs.declared.error.DecodeError.TheVariants.{ExhaustedInput}
+use Rattle.x86_operand.specs.Meaning.{Decoded}
 use Rattle.x86_reader.specs.Reader.{ReaderState}
 use Rattle.x86_reader.specs.Reader.Lemmas.{Passes-none, Passes-trans}
 use Rattle.x86_reader.specs.Sink.{SinkState, Triple, Records}
 use Rattle.x86_reader.specs.Sink.Lemmas.{Records-none, Records-trans}
 use Rattle.x86_address.specs.Reading.{Reading, ◌>>=◌}
 use Rattle.x86_address.specs.Follows.{Answers, Counts, Follows}
+use Rattle.vex_forms.specs.Operands.{made}
 use Rattle.vex_decode.specs.Noting.{Noted, Noting, go_on, ◌>>◌, silent, noting, AnswersNoting, FollowsNoting}
+
+-- an error that is given again by `?` is that of what was made
+pub made_fails : (error : DecodeError) (result : Result (Unit {0}) DecodeError) (instruction : Decoded) → IsErr result × IsErrAnd result (λ e. e ≡ error) → IsErr (made result instruction) × IsErrAnd (made result instruction) (λ e. e ≡ error)
+made_fails error (Err e) instruction is = is
+made_fails error (Ok done) instruction is = cc
 
 -- a call that notes nothing
 pub noting_silent : {D A B : Type 0} {step : List ℕ → Reading A} {IsSo : A → B → Type 0} {old new : ReaderState} {sink : SinkState D} (result : Result B DecodeError) → Follows step IsSo old new result → FollowsNoting (silent step) IsSo old new sink sink result

@@ -3,6 +3,7 @@
 ghost use Rattle.std.specs.Prelude.{◌≡◌, ◌≤◌, ◌↔◌, length, take, ℕ, IsOk, IfOk, IfErr, OnOk, OnErr, IsSome, Some, None, true};
 ghost use Rattle.x86_permit.specs.Permission.{permits};
 ghost use Rattle.x86_reader.specs.Reader.{marked};
+ghost use Rattle.vex_forms.specs.Operands.{made};
 ghost use Rattle.vex_decode.specs.Spelling.{Spells};
 ghost use Rattle.vex_decode.specs.Blocked.{blocked};
 ghost use Rattle.vex_decode.specs.Decoding.{TakesInstruction, TakesBlocked, CompletesDecode, BlocksSlice, NotesTaken, no_instruction};
@@ -95,21 +96,23 @@ pub trait Decoder {
         ensures kept { IsSome (S.state sink.old).told → 11 ≤ (S.state sink.old).room → IsSome (S.state sink.new).told };
 }
 
-/// The instruction that a reader gives, with its notes.
+/// The instruction that a reader gives, with its notes, whatever it held. It is written in place.
 fn decode_noting<R: Reader, S: DescriptionSink<FieldDescription>>(
     settings: &InstDecoder,
     words: &mut R,
     sink: &mut S,
-) -> Result<Instruction, DecodeError>
+    instruction: &mut Instruction,
+) -> Result<(), DecodeError>
     ensures { Decodes settings.now (marked (R.state words.old)) (R.state words.new)
-        (S.state sink.old) (S.state sink.new) result }
+        (S.state sink.old) (S.state sink.new) (made result instruction.new) }
 {
     words.mark();
-    let mut instruction = read_instruction(words, sink)?;
+    *instruction = Instruction::default();
+    read_instruction(words, sink, instruction)?;
     // At most 11.
     instruction.set_len(words.offset() as u8);
-    revise_instruction(settings, &mut instruction)?;
-    Ok(instruction)
+    revise_instruction(settings, instruction)?;
+    Ok(())
 }
 
 impl Decoder for InstDecoder {
@@ -121,7 +124,11 @@ impl Decoder for InstDecoder {
     }
 
     fn decode<R: Reader>(&self, words: &mut R) -> Result<Instruction, DecodeError> {
-        decode_noting(self, words, &mut NullSink)
+        let mut instruction = Instruction::default();
+        match decode_noting(self, words, &mut NullSink, &mut instruction) {
+            Ok(()) => Ok(instruction),
+            Err(error) => Err(error),
+        }
     }
 
     fn decode_into<R: Reader>(
@@ -138,11 +145,8 @@ impl Decoder for InstDecoder {
         words: &mut R,
         sink: &mut S,
     ) -> Result<(), DecodeError> {
-        match decode_noting(self, words, sink) {
-            Ok(decoded) => {
-                *instruction = decoded;
-                Ok(())
-            }
+        match decode_noting(self, words, sink, instruction) {
+            Ok(()) => Ok(()),
             Err(error) => {
                 *instruction = Instruction::default();
                 Err(error)

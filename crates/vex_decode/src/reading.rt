@@ -7,6 +7,7 @@ ghost use Rattle.vex_rows.specs.Row.{Among};
 ghost use Rattle.vex_rows.specs.Rules.{has_key};
 ghost use Rattle.vex_rows.specs.Table.{table};
 ghost use Rattle.vex_forms.specs.Fields.{fields_of};
+ghost use Rattle.vex_forms.specs.Operands.{blank, made};
 ghost use Rattle.vex_decode.specs.Fields.{PrefixForm, C4, C5};
 ghost use Rattle.vex_decode.specs.Walk.{key_of, entry_of, found};
 ghost use Rattle.vex_decode.specs.Noting.{FollowsNoting};
@@ -20,7 +21,7 @@ use crate::prefix_fields::{
 use std::marker::Brand;
 use std::sync::ledger::{Blank, Ledger};
 use step_counter::Steps;
-use vex_forms::read_form;
+use vex_forms::read_form_into;
 use vex_rows::{Entry, Key, Prefix, lookup};
 use x86_operand::{DecodeError, FieldDescription, Instruction};
 use x86_reader::{DescriptionSink, Reader};
@@ -98,62 +99,71 @@ fn find_entry(prefix: &Prefix, byte: u8) -> Result<Entry, DecodeError>
     }
 }
 
-/// The instruction from the opcode byte on, whose first bit is `start`.
+/// The instruction from the opcode byte on, whose first bit is `start`. This and what calls it write to an instruction
+/// that nothing was written to.
 fn read_from_opcode<R: Reader, S: DescriptionSink<FieldDescription>>(
     prefix: &Prefix,
     start: u32,
     words: &mut R,
     sink: &mut S,
-) -> Result<Instruction, DecodeError>
+    instruction: &mut Instruction,
+) -> Result<(), DecodeError>
     requires within { prefix.now.vvvv < 16 }
     requires start { start < 32 }
+    requires blank { instruction.old ≡ blank }
     ensures { (form : PrefixForm) → start ≡ opcode_start form
         → FollowsNoting (noted_opcode form (fields_of prefix.now)) IsMeant
-        (R.state words.old) (R.state words.new) (S.state sink.old) (S.state sink.new) result }
+        (R.state words.old) (R.state words.new) (S.state sink.old) (S.state sink.new) (made result instruction.new) }
 {
     let byte = read_byte(words)?;
     let entry = find_entry(prefix, byte)?;
     note_opcode(start, &entry, sink);
-    read_form(&entry, prefix, words)
+    read_form_into(&entry, prefix, words, instruction)
 }
 
 /// The instruction after the first byte C5.
 pub fn read_after_two<R: Reader, S: DescriptionSink<FieldDescription>>(
     words: &mut R,
     sink: &mut S,
-) -> Result<Instruction, DecodeError>
+    instruction: &mut Instruction,
+) -> Result<(), DecodeError>
+    requires { instruction.old ≡ blank }
     ensures { FollowsNoting (noted_rest C5) IsMeant
-        (R.state words.old) (R.state words.new) (S.state sink.old) (S.state sink.new) result }
+        (R.state words.old) (R.state words.new) (S.state sink.old) (S.state sink.new) (made result instruction.new) }
 {
     let prefix = read_second_byte(words, sink)?;
-    read_from_opcode(&prefix, 16, words, sink)
+    read_from_opcode(&prefix, 16, words, sink, instruction)
 }
 
 /// The instruction after the first byte C4.
 pub fn read_after_three<R: Reader, S: DescriptionSink<FieldDescription>>(
     words: &mut R,
     sink: &mut S,
-) -> Result<Instruction, DecodeError>
+    instruction: &mut Instruction,
+) -> Result<(), DecodeError>
+    requires { instruction.old ≡ blank }
     ensures { FollowsNoting (noted_rest C4) IsMeant
-        (R.state words.old) (R.state words.new) (S.state sink.old) (S.state sink.new) result }
+        (R.state words.old) (R.state words.new) (S.state sink.old) (S.state sink.new) (made result instruction.new) }
 {
     let prefix = read_two_more(words, sink)?;
-    read_from_opcode(&prefix, 24, words, sink)
+    read_from_opcode(&prefix, 24, words, sink, instruction)
 }
 
 /// The instruction.
 pub fn read_instruction<R: Reader, S: DescriptionSink<FieldDescription>>(
     words: &mut R,
     sink: &mut S,
-) -> Result<Instruction, DecodeError>
+    instruction: &mut Instruction,
+) -> Result<(), DecodeError>
+    requires { instruction.old ≡ blank }
     ensures { FollowsNoting noted_walk IsMeant
-        (R.state words.old) (R.state words.new) (S.state sink.old) (S.state sink.new) result }
+        (R.state words.old) (R.state words.new) (S.state sink.old) (S.state sink.new) (made result instruction.new) }
 {
     let first = read_byte(words)?;
     if first == TWO_BYTES {
-        read_after_two(words, sink)
+        read_after_two(words, sink, instruction)
     } else if first == THREE_BYTES {
-        read_after_three(words, sink)
+        read_after_three(words, sink, instruction)
     } else {
         Err(DecodeError::Outside)
     }

@@ -28,9 +28,9 @@ pub fn two_byte_vex<R: Reader, S: DescriptionSink<FieldDescription>>(
     ensures noted { NotesRest 0xC5 (R.state words.old) (R.state words.new) (S.state sink.old) (S.state sink.new) }
     ensures kept { IsSome (S.state sink.old).told → 11 ≤ (S.state sink.old).room → IsSome (S.state sink.new).told }
 {
-    match read_after_two(words, sink) {
-        Ok(read) => {
-            *instruction = read;
+    *instruction = Instruction::default();
+    match read_after_two(words, sink, instruction) {
+        Ok(()) => {
             // At most 11.
             instruction.set_len(words.offset() as u8);
             Ok(())
@@ -56,9 +56,9 @@ pub fn three_byte_vex<R: Reader, S: DescriptionSink<FieldDescription>>(
     ensures noted { NotesRest 0xC4 (R.state words.old) (R.state words.new) (S.state sink.old) (S.state sink.new) }
     ensures kept { IsSome (S.state sink.old).told → 11 ≤ (S.state sink.old).room → IsSome (S.state sink.new).told }
 {
-    match read_after_three(words, sink) {
-        Ok(read) => {
-            *instruction = read;
+    *instruction = Instruction::default();
+    match read_after_three(words, sink, instruction) {
+        Ok(()) => {
             // At most 11.
             instruction.set_len(words.offset() as u8);
             Ok(())

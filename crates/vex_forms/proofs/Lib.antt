@@ -3,7 +3,7 @@ pub mod Choices
 pub mod Shaping
 pub mod Choosing
 pub mod Fit
-mod Mapped
+mod Adding
 mod MeaningGiven
 pub mod Operating
 pub mod Instructing

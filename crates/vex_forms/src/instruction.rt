@@ -5,39 +5,41 @@ ghost use Rattle.x86_address.specs.Bytes.{bit};
 ghost use Rattle.vex_rows.specs.Row.{Row};
 ghost use Rattle.vex_forms.specs.Gives.{gives, slot_operand};
 ghost use Rattle.vex_forms.specs.Layout.{IsLayout, chosen};
-ghost use Rattle.vex_forms.specs.Operands.{has_sixteen, slots_fit, target_seen};
+ghost use Rattle.vex_forms.specs.Operands.{blank, has_sixteen, slots_fit, target_seen};
 
 use crate::choice::Choice;
 use crate::operand_fields::OperandFields;
-use crate::operands::operands;
+use crate::operands::add_operand;
 use crate::row_layout::RowLayout;
 use crate::slot::Slot;
 use x86_operand::{Instruction, MemoryAccessSize, Opcode, RegisterBank};
 
-/// The instruction of that opcode and memory size, with an operand for each of at most four slots in order. Its length is
-/// 0.
+/// Writes the opcode, the memory size and an operand for each of at most four slots in order. It writes in place, since
+/// an instruction is copied at each return.
 #[inline(always)]
-fn instruction_by(
+fn write_parts(
     opcode: Opcode,
     slots: &[Slot],
     index_bank: RegisterBank,
     mem_size: Option<MemoryAccessSize>,
     fields: &OperandFields,
-) -> Instruction
-    requires { length slots.now ≤ 4 }
-    ensures meaning { slots_fit slots.now ≡ true → has_sixteen index_bank ≡ true → result.meaning
+    instruction: &mut Instruction,
+)
+    requires few { length slots.now ≤ 4 }
+    requires blank { instruction.old ≡ blank }
+    ensures meaning { slots_fit slots.now ≡ true → has_sixteen index_bank ≡ true → instruction.new.meaning
         ≡ record {
           evex = false;
           opcode = opcode;
           operands = map (slot_operand index_bank (bit fields.now.r) fields.now.vvvv fields.now.reg (target_seen fields.now.e) fields.now.imm) slots.now;
           size = mem_size;
         } }
-    ensures length { result.len ≡ 0 }
+    ensures length { instruction.new.len ≡ 0 }
 {
-    let operands = operands(slots, index_bank, fields);
-    match Instruction::from_parts(false, opcode, &operands[..slots.len()], mem_size) {
-        Some(instruction) => instruction,
-        None => unreachable!(),
+    instruction.set_opcode(opcode);
+    instruction.set_mem_size(mem_size);
+    for slot in slots {
+        add_operand(*slot, index_bank, fields, instruction);
     }
 }
 
@@ -48,29 +50,34 @@ pub fn instruction_of(layout: &RowLayout, fields: &OperandFields) -> Instruction
         ≡ gives row (bit fields.now.r) fields.now.vvvv fields.now.reg (target_seen fields.now.e) fields.now.imm }
     ensures length { result.len ≡ 0 }
 {
-    instruction_by(
+    let mut instruction = Instruction::default();
+    write_parts(
         layout.opcode,
         layout.slots.as_slice(),
         layout.index_bank,
         layout.mem_size,
         fields,
-    )
+        &mut instruction,
+    );
+    instruction
 }
 
 impl Choice {
-    /// The instruction that the row means with these numbers, as `instruction_of` makes it of the row's layout.
-    pub fn instruction(&self, fields: &OperandFields) -> Instruction
-        ensures meaning { result.meaning
+    /// Writes the instruction that the row means with these numbers, as `instruction_of` makes it of the row's layout.
+    pub fn write_instruction(&self, fields: &OperandFields, instruction: &mut Instruction)
+        requires { instruction.old ≡ blank }
+        ensures meaning { instruction.new.meaning
             ≡ gives (chosen self.now) (bit fields.now.r) fields.now.vvvv fields.now.reg (target_seen fields.now.e) fields.now.imm }
-        ensures length { result.len ≡ 0 }
+        ensures length { instruction.new.len ≡ 0 }
     {
         let slots = self.slots();
-        instruction_by(
+        write_parts(
             self.opcode(),
             slots.as_slice(),
             self.index_bank(),
             self.memory_size(),
             fields,
-        )
+            instruction,
+        );
     }
 }

@@ -46,7 +46,7 @@ mod slots;
 pub use instruction::instruction_of;
 pub use operand_e::OperandE;
 pub use operand_fields::OperandFields;
-pub use reading::read_form;
+pub use reading::{read_form, read_form_into};
 pub use row_layout::{RowLayout, layout};
 pub use slot::{Slot, VvvvRule};
 

@@ -10,6 +10,7 @@ ghost use Rattle.vex_rows.specs.Row.{Among, is_memory};
 ghost use Rattle.vex_rows.specs.Table.{table};
 ghost use Rattle.vex_forms.specs.Fields.{fields_of};
 ghost use Rattle.vex_forms.specs.FormWalk.{place_by, take_imm, walk_alone, walk_form, walk_modrm};
+ghost use Rattle.vex_forms.specs.Operands.{blank, made};
 ghost use Rattle.vex_forms.specs.Reads.{FailsForm, HasPrefix, IsInstruction, IsOperandE, IsOperands, TakesForm, kind_of_e, kind_seen};
 
 use crate::checks::{Kind, do_checks};
@@ -144,21 +145,25 @@ fn is_memory(e: OperandE) -> bool
     matches!(e, OperandE::Memory(_))
 }
 
-/// Does the steps of an entry's form, and makes the instruction that they mean.
-pub(crate) fn read_instruction<R: Reader>(
+/// Does the steps of an entry's form as `read_form` does, and writes the instruction that they mean to one that nothing
+/// was written to.
+pub fn read_form_into<R: Reader>(
     entry: &Entry,
     prefix: &Prefix,
     words: &mut R,
-) -> Result<Instruction, DecodeError>
+    instruction: &mut Instruction,
+) -> Result<(), DecodeError>
     requires prefix { HasPrefix entry.now (fields_of prefix.now) }
     requires vvvv { prefix.now.vvvv < 16 }
+    requires blank { instruction.old ≡ blank }
     ensures { Follows (walk_form entry.now (fields_of prefix.now)) (IsInstruction entry.now (fields_of prefix.now))
-        (R.state words.old) (R.state words.new) result }
+        (R.state words.old) (R.state words.new) (made result instruction.new) }
 {
     let fields = read_operands(entry, prefix, words)?;
     // The steps have passed, so that the choice is a row.
     let choice = Choice::of(entry, prefix.w, prefix.l, is_memory(fields.e), fields.reg);
-    Ok(choice.instruction(&fields))
+    choice.write_instruction(&fields, instruction);
+    Ok(())
 }
 
 /// Does the steps of an entry's form over the bytes after the opcode byte, and answers the instruction that they mean
@@ -190,5 +195,9 @@ pub fn read_form<R: Reader>(
 {
     // By this law the bytes that were read are those that spell what was read.
     reading_is_spelling();
-    read_instruction(entry, prefix, words)
+    let mut instruction = Instruction::default();
+    match read_form_into(entry, prefix, words, &mut instruction) {
+        Ok(()) => Ok(instruction),
+        Err(error) => Err(error),
+    }
 }

@@ -1,6 +1,7 @@
 //! An instruction: its meaning, and the number of bytes that spelled it.
 
-ghost use Rattle.std.specs.Prelude.{◌≡◌, ◌≤◌, ◌↔◌, IsTrue, IsSome, IfSome, List, [], length, map, None, false};
+ghost use Rattle.std.specs.Prelude.{◌≡◌, ◌<◌, ◌≤◌, ◌↔◌, IsTrue, IsSome, IfSome, List, [], ◌∷◌, ◌++◌, length, map, None, false};
+ghost use Rattle.std.specs.Bool.{OnTrue, OnFalse};
 ghost use Rattle.x86_operand.specs.Instruction.{four_places, kept_operand, operand_at};
 ghost use Rattle.x86_operand.specs.Meaning.{operand_meaning};
 
@@ -190,6 +191,34 @@ impl Instruction {
         ensures { self.new ≡ record self.old { len = len } }
     {
         self.len = len;
+    }
+
+    /// Changes the size of the memory operand alone.
+    pub fn set_mem_size(&mut self, mem_size: Option<MemoryAccessSize>)
+        ensures { self.new ≡ record self.old { meaning = record self.old.meaning { size = mem_size } } }
+    {
+        self.mem_size = mem_size;
+    }
+
+    /// Adds an operand after the others, and answers whether there was room for it: an instruction
+    /// has at most four. Where there was none, nothing changes.
+    #[tactic(auto, using(crate::specs::Instruction::Laws::places))]
+    pub fn push(&mut self, operand: Operand) -> bool
+        ensures within { IsTrue result ↔ (length self.old.meaning.operands < 4) }
+        ensures added { OnTrue result (self.new ≡ record self.old {
+          meaning = record self.old.meaning {
+            operands = self.old.meaning.operands ++ operand_meaning operand ∷ [];
+          };
+        }) }
+        ensures full { OnFalse result (self.new ≡ self.old) }
+    {
+        let place = usize::from(self.operand_count);
+        if place == MAX_OPERANDS {
+            return false;
+        }
+        self.operands[place] = operand.kept();
+        self.operand_count += 1;
+        true
     }
 
     /// Whether the two have one meaning: the same mark, opcode, operands and memory size, whatever

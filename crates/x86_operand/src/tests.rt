@@ -104,6 +104,33 @@ fn an_instruction_has_four_operands_at_most(rt: HostRuntime) -> Result<(), Fail>
     Ok(())
 }
 
+fn unsigned(imm: u8) -> Operand {
+    Operand::ImmediateU8 { imm }
+}
+
+#[test]
+fn operands_are_added_one_by_one(rt: HostRuntime) -> Result<(), Fail> {
+    let mut made = Instruction::of(Opcode::VADDPS, true);
+    made.set_mem_size(MemoryAccessSize::of(16));
+    let added = [
+        made.push(unsigned(1)),
+        made.push(unsigned(2)),
+        made.push(unsigned(3)),
+        made.push(unsigned(4)),
+        made.push(unsigned(5)),
+    ];
+    assert_eq!(rt; added, [true, true, true, true, false]);
+    let operands = [unsigned(1), unsigned(2), unsigned(3), unsigned(4)];
+    let wanted = Instruction::from_parts(
+        true,
+        Opcode::VADDPS,
+        &operands,
+        MemoryAccessSize::of(16),
+    ).ok_or("four operands")?;
+    assert_eq!(rt; made, wanted);
+    Ok(())
+}
+
 #[test]
 fn an_address_is_kept_in_one_form(rt: HostRuntime) -> Result<(), Fail> {
     let base = RegSpec::rax();

@@ -1,5 +1,5 @@
 use Rattle.std.proofs.Common.{◌≡◌, ◌≢◌, arith}
-use Rattle.vex_decode.proofs.Recording.{noting_silent, noting_seen, noting_fails, noting_value, noting_refused}
+use Rattle.vex_decode.proofs.Recording.{made_fails, noting_silent, noting_seen, noting_fails, noting_value, noting_refused}
 use Rattle.x86_operand.specs.declared.error.DecodeError.TheVariants.{Outside}
 use Rattle.vex_decode.specs.Fields.{C4, C5}
 use Rattle.vex_decode.specs.Walk.{form_of}
@@ -8,7 +8,7 @@ use Rattle.vex_decode.proofs.NotesTaken.{form_two, form_three, form_other}
 use Rattle.vex_decode.proofs.reading.read_instruction.Goals as goal
 
 pub returns-in_err-first : goal.returns-in_err-first
-returns-in_err-first g c = noting_fails _ _ c.from_residual.ensures (noting_silent _ c.in_err-first.ensures)
+returns-in_err-first g c = noting_fails _ _ (made_fails _ c.from_residual.result _ c.from_residual.ensures) (noting_silent _ c.in_err-first.ensures)
 
 pub returns-then-first : goal.returns-then-first
 returns-then-first g c =

@@ -1,14 +1,17 @@
-use Rattle.vex_decode.proofs.Decoding.{if_taken, if_blocked, if_slice}
+use Rattle.std.proofs.Common.{refl}
 use Rattle.vex_decode.proofs.decoder.InstDecoderDecoder.decode.Goals as goal
 
-pub returns-clause-decoded : goal.returns-clause-decoded
-returns-clause-decoded g c = if_taken c.decode_noting.result c.decode_noting.ensures
+pub returns-in-Ok-clause-decoded : goal.returns-in-Ok-clause-decoded
+returns-in-Ok-clause-decoded g c = c.in-Ok.ensures.took
 
-pub returns-clause-refused : goal.returns-clause-refused
-returns-clause-refused g c = if_blocked c.decode_noting.result c.decode_noting.ensures
+pub returns-in-Ok-clause-complete : goal.returns-in-Ok-clause-complete
+returns-in-Ok-clause-complete g c = λ front rest m told spells permitted uncounted. refl
 
-pub returns-clause-complete : goal.returns-clause-complete
-returns-clause-complete g c = c.decode_noting.ensures.complete
+pub returns-in-Err-clause-refused : goal.returns-in-Err-clause-refused
+returns-in-Err-clause-refused g c = c.in-Err.ensures.took.0
 
-pub returns-clause-slice : goal.returns-clause-slice
-returns-clause-slice g c = if_slice c.decode_noting.result c.decode_noting.ensures
+pub returns-in-Err-clause-complete : goal.returns-in-Err-clause-complete
+returns-in-Err-clause-complete g c = c.in-Err.ensures.complete
+
+pub returns-in-Err-clause-slice : goal.returns-in-Err-clause-slice
+returns-in-Err-clause-slice g c = c.in-Err.ensures.took.1
