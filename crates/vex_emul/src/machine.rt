@@ -94,8 +94,8 @@ impl<'a> Machine<'a> {
         self.memory
     }
 
-    /// Sets all registers to 0, as `new` does. The memory stays as it is, so that a machine that has run code can be used
-    /// again without a new one.
+    /// Sets all registers to 0, as `new` does. The memory stays as it is, so that a machine that has run code can be
+    /// used again without a new one.
     pub fn reset(&mut self)
         ensures { self.new ≡ start_of self.old.memory }
     {

@@ -1,6 +1,6 @@
 -- Bytes that count up, the machine at the start of a line, and the lines of what a run changes.
 use Rattle.std.proofs.Common.{◌≡◌, ℕ, ◌+◌, ◌-◌, ◌*◌, ◌%◌, ◌<◌, ◌≤◌, Bool, true, false, List, [], ◌∷◌, ◌++◌, length, get_or, take, drop, map, zero, suc, ap, sym, ◌∙◌, refl, arith, slice_set, append_assoc}
-use Rattle.std.specs.Prelude.{bytes_eq, codes, decimal, flat_map, slice_index_or, if◌then◌else◌, Option, Result, Ok, Err}
+use Rattle.std.specs.Prelude.{bytes_eq, codes, decimal, flat_map, slice_index_or, if◌then◌else◌, Result, Ok, Err}
 use Rattle.std.specs.Io.KnownBytes.{Appends}
 use Rattle.std.specs.List.{range_with_len}
 use Rattle.std.specs.Simd.Lanes.{chunk}
@@ -87,8 +87,8 @@ started zero = start_of start_memory
 started (suc i) = set_up (started i) i
 
 -- no register is set yet, and the memory counts up
-pub started-none : (reset : State) (memory lent filled : List ℕ) → reset ≡ start_of memory → length memory ≡ 1024 → lent ≡ reset.memory
-    → filled ≡ counting 0 (length lent) → record reset { memory = filled } ≡ started 0
+pub started-none : (reset : State) (memory lent filled : List ℕ) → reset ≡ start_of memory → length memory ≡ 1024
+    → lent ≡ reset.memory → filled ≡ counting 0 (length lent) → record reset { memory = filled } ≡ started 0
 unfolding started
 started-none reset memory lent filled is long lends counts =
     let all : length lent ≡ 1024 = ap length (lends ∙ ap (λ (s : State). s.memory) is) ∙ long in
@@ -111,7 +111,8 @@ unfolding started start numbers
 started-all = refl
 
 -- a run from the start leaves as much memory
-pub started-room : (begun left : State) → begun ≡ start → length left.memory ≡ length begun.memory → length left.memory ≡ 1024
+pub started-room : (begun left : State) → begun ≡ start → length left.memory ≡ length begun.memory
+    → length left.memory ≡ 1024
 unfolding start
 started-room begun left is room = room ∙ ap (λ (s : State). length s.memory) is ∙ length-counting 0 1024
 
@@ -132,19 +133,23 @@ take-numbers n i ended = ap (λ m. take m (numbers n)) (ended ∙ sym (count-num
 -- a loop writes a line for each number below n, and has come to i
 module _ (line : ℕ → List ℕ) (n i : ℕ) (first now : Told) (wrote : Wrote line (take i (numbers n)) first now) where
   -- it writes the line of i
-  pub number-written : (new : Told) → i < n → Appends now.text new.text (line i) → new.faults ≡ now.faults → Wrote line (take (i + 1) (numbers n)) first new
+  pub number-written : (new : Told) → i < n → Appends now.text new.text (line i) → new.faults ≡ now.faults
+      → Wrote line (take (i + 1) (numbers n)) first new
   number-written new below written quiet =
       let within : i < length (numbers n) = omega (arith, below, count-numbers n) in
-      rw (take-item (numbers n) i i within (number-at n i below)) (Wrote-step line (take i (numbers n)) i first now new wrote written quiet)
+      rw (take-item (numbers n) i i within (number-at n i below))
+      (Wrote-step line (take i (numbers n)) i first now new wrote written quiet)
 
   -- the write of the line of i fails
-  pub number-fault : {T E : Type 0} (result : Result T E) (e : E) (new : Told) → result ≡ Err e → i < n → AppendsFront now.text new.text (line i)
-      → RoseOrIsLast now.faults new.faults → Writes result first.text new.text first.faults new.faults (flat_map line (numbers n))
+  pub number-fault : {T E : Type 0} (result : Result T E) (e : E) (new : Told) → result ≡ Err e → i < n
+      → AppendsFront now.text new.text (line i) → RoseOrIsLast now.faults new.faults
+      → Writes result first.text new.text first.faults new.faults (flat_map line (numbers n))
   number-fault result e new is below front cause =
       let within : i < length (numbers n) = omega (arith, below, count-numbers n) in
       let split = split-item (numbers n) i i within (number-at n i below) in
+      let rest = drop (i + 1) (numbers n) in
       Writes-fault result e _ _ _ _ _ is
-      (Wrote-fault line (numbers n) (take i (numbers n)) (drop (i + 1) (numbers n)) i first now new.text wrote split front)
+      (Wrote-fault line (numbers n) (take i (numbers n)) rest i first now new.text wrote split front)
       (rw wrote.quiet at cause)
 
   -- it ends
@@ -180,8 +185,9 @@ block-is memory b bytes first below these start =
     ∙ ap (λ bs. changed_line (codes "m") (32 * b) bs (chunk (32 * b) 32 start_memory)) these
 
 -- all lines of a run
-pub emulated : (settings : List Bool) (code : List ℕ) (state kept : State) (result : Result ℕ Halt) → ran settings start code ≡ (state, result)
-    → kept ≡ state → emulate_lines settings code ≡ vector_lines kept.vectors ++ block_lines kept.memory ++ ran_line result
+pub emulated : (settings : List Bool) (code : List ℕ) (state kept : State) (result : Result ℕ Halt)
+    → ran settings start code ≡ (state, result) → kept ≡ state
+    → emulate_lines settings code ≡ vector_lines kept.vectors ++ block_lines kept.memory ++ ran_line result
 unfolding emulate_lines
 emulated settings code state kept result is same =
     ap outcome_lines is ∙ ap (λ (s : State). outcome_lines (s, result)) (sym same)

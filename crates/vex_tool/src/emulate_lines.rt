@@ -54,8 +54,8 @@ fn put_back(machine: &mut Machine<'_>)
     }
 }
 
-/// A machine with 1,024 bytes of memory, which is made once and lent to each line. A line finds it as the line before left
-/// it, and begins by putting it back to the start.
+/// A machine with 1,024 bytes of memory, which is made once and lent to each line. A line finds it as the line before
+/// left it, and begins by putting it back to the start.
 #[derive(Drop)]
 pub struct LineMachine<'a> {
     machine: Machine<'a>,

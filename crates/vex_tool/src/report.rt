@@ -80,8 +80,8 @@ fn decode_digits(text: &[u8], bytes: &mut [u8]) -> Result<usize, LineError>
     }
 }
 
-/// Room for the digits of a line and for the bytes that they write, and a machine that runs them. It is made once and lent
-/// to each line: to make it anew, by value, would take longer than all else that a line needs.
+/// Room for the digits of a line and for the bytes that they write, and a machine that runs them. It is made once and
+/// lent to each line: to make it anew, by value, would take longer than all else that a line needs.
 #[derive(Drop)]
 pub struct LineRoom<'a> {
     digits: ArrayVec<u8, MAX_LINE>,

@@ -4,8 +4,8 @@ use Rattle.vex_tool.proofs.emulate_lines.put_back.Goals as goal
 
 pub loop-i-init : goal.loop-i-init
 loop-i-init c =
-    started-none c.reset.new.self c.args.machine.now.memory c.memory_mut.result.now c.count_up.new.bytes c.reset.ensures c.requires
-    c.memory_mut.ensures.is c.count_up.ensures
+    started-none c.reset.new.self c.args.machine.now.memory c.memory_mut.result.now c.count_up.new.bytes
+    c.reset.ensures c.requires c.memory_mut.ensures.is c.count_up.ensures
 
 pub loop-i-preserved : goal.loop-i-preserved
 loop-i-preserved c =

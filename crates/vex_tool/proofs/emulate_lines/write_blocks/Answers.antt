@@ -15,19 +15,25 @@ returns-in_err-write_changed g c =
     let failed = err_from_is_err_and c.from_residual.result c.from_residual.ensures.1 in
     let memory = c.args.memory.now in
     let b = c.loop-b.b in
-    let line = block-is memory b c.block_at.result.now c.block_from-start.result c.loop-b-test.true c.block_at.ensures.is c.block_from-start.ensures in
-    number-fault (block_line memory) 32 b _ _ c.loop-b.invariant _ failed.0 (record { text = _; faults = _ }) failed.1 c.loop-b-test.true
-    (rw line at c.in_err-write_changed.ensures.front) c.in_err-write_changed.ensures.cause
+    let line =
+    block-is memory b c.block_at.result.now c.block_from-start.result c.loop-b-test.true c.block_at.ensures.is
+    c.block_from-start.ensures in
+    number-fault (block_line memory) 32 b _ _ c.loop-b.invariant _ failed.0 (record { text = _; faults = _ }) failed.1
+    c.loop-b-test.true (rw line at c.in_err-write_changed.ensures.front) c.in_err-write_changed.ensures.cause
 
 pub loop-b-preserved : goal.loop-b-preserved
 loop-b-preserved g c =
     let memory = c.args.memory.now in
     let b = c.loop-b.b in
-    let line = block-is memory b c.block_at.result.now c.block_from-start.result c.loop-b-test.true c.block_at.ensures.is c.block_from-start.ensures in
+    let line =
+    block-is memory b c.block_at.result.now c.block_from-start.result c.loop-b-test.true c.block_at.ensures.is
+    c.block_from-start.ensures in
     let more = c.in_ok-write_changed.ensures in
-    number-written (block_line memory) 32 b _ _ c.loop-b.invariant _ c.loop-b-test.true (rw line at more.appends) more.quiet
+    number-written (block_line memory) 32 b _ _ c.loop-b.invariant _ c.loop-b-test.true (rw line at more.appends)
+    more.quiet
 
 pub returns : goal.returns
 unfolding block_lines
 returns g c =
-    numbers-written (block_line c.args.memory.now) 32 c.loop-b.b _ _ c.loop-b.invariant _ tt refl c.loop-b-test.false c.loop-b.auto.b-end
+    numbers-written (block_line c.args.memory.now) 32 c.loop-b.b _ _ c.loop-b.invariant _ tt refl
+    c.loop-b-test.false c.loop-b.auto.b-end
