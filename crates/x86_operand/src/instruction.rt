@@ -202,7 +202,7 @@ impl Instruction {
 
     /// Adds an operand after the others, and answers whether there was room for it: an instruction
     /// has at most four. Where there was none, nothing changes.
-    #[tactic(auto, using(crate::specs::Instruction::Laws::places))]
+    #[tactic(auto, using(crate::specs::Instruction::Lemmas::places))]
     pub fn push(&mut self, operand: Operand) -> bool
         ensures within { IsTrue result ↔ (length self.old.meaning.operands < 4) }
         ensures added { OnTrue result (self.new ≡ record self.old {

@@ -1,4 +1,4 @@
-use Rattle.x86_address.specs.Follows.Laws.{follows_decided, follows_map}
+use Rattle.x86_address.specs.Follows.Lemmas.{follows_decided, follows_map}
 use Rattle.vex_decode.proofs.Recording.{made_fails, noting_silent, noting_seen, noting_fails, noting_noted}
 use Rattle.vex_decode.proofs.NoteIs.{starting}
 use Rattle.vex_decode.proofs.reading.read_from_opcode.Goals as goal
