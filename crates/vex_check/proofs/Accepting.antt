@@ -78,7 +78,8 @@ kept-contains : (f : ℕ → Option First) (bits : List ℕ) (bit : ℕ) (first 
 kept-contains f [] bit first among is = absurd (false-is-not-true among)
 kept-contains f (b ∷ bits) bit first among is =
     by (b == bit) refl among (λ k. kept-contains f bits bit first k is) where
-      onto : (o : Option First) → Contains (filter_map f bits) first → Contains (cons_option o (filter_map f bits)) first
+      onto : (o : Option First) → Contains (filter_map f bits) first
+          → Contains (cons_option o (filter_map f bits)) first
       onto None has = has
       onto (Some other) has = contains-later other (filter_map f bits) first has
 

@@ -1,6 +1,7 @@
 -- Where bytes are blocked, computed at examples: VMOVAPS needs the bit of avx, which is asked for last.
 use Rattle.std.specs.Prelude.{◌≡◌, refl, Bool, List, [], ◌∷◌, Some, None}
-use Rattle.x86_operand.specs.declared.error.DecodeError.TheVariants.{ExhaustedInput, InvalidOpcode, InvalidOperand, Outside}
+use Rattle.x86_operand.specs.declared.error.DecodeError.TheVariants.{ExhaustedInput, InvalidOpcode, InvalidOperand}
+use Rattle.x86_operand.specs.declared.error.DecodeError.TheVariants.{Outside}
 use Rattle.x86_opcode.specs.Condition.{opcode_condition}
 use Rattle.x86_settings.specs.Bits.{no_bits, with_set}
 use Rattle.x86_settings.specs.Settings.{avx}
@@ -19,16 +20,19 @@ abbrev avx_bit : List Bool
 avx_bit = with_set no_bits avx
 
 permitted : blocked avx_bit (0xC4 ∷ 0xC1 ∷ 0x78 ∷ 0x28 ∷ 0xC0 ∷ []) ≡ None
-unfolding walk walk_form entry_of has_key table steps form_row groups has_groups mark_of opcode_of permits opcode_condition
+unfolding walk walk_form entry_of has_key table steps form_row groups has_groups mark_of opcode_of permits
+    opcode_condition
 permitted = refl
 
 refused : blocked no_bits (0xC4 ∷ 0xC1 ∷ 0x78 ∷ 0x28 ∷ 0xC0 ∷ []) ≡ Some (InvalidOpcode, 5)
-unfolding walk walk_form entry_of has_key table steps form_row groups has_groups mark_of opcode_of permits opcode_condition
+unfolding walk walk_form entry_of has_key table steps form_row groups has_groups mark_of opcode_of permits
+    opcode_condition
 refused = refl
 
 -- what follows a spelling plays no part
 followed : blocked avx_bit (0xC5 ∷ 0xF8 ∷ 0x28 ∷ 0xC0 ∷ 0xFF ∷ 0xFF ∷ []) ≡ None
-unfolding walk walk_form entry_of has_key table steps form_row groups has_groups mark_of opcode_of permits opcode_condition
+unfolding walk walk_form entry_of has_key table steps form_row groups has_groups mark_of opcode_of permits
+    opcode_condition
 followed = refl
 
 -- every other step comes before the settings

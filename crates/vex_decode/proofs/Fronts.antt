@@ -1,11 +1,14 @@
--- What each step takes: a front of the bytes, at most so many, and what it answers there doesn't depend on what follows.
--- And which errors it has.
-use Rattle.std.specs.Prelude.{◌≡◌, ◌≢◌, refl, ℕ, ◌+◌, ◌≤◌, ◌/◌, ◌%◌, ◌==◌, ◌&&◌, Bool, true, false, List, [], ◌∷◌, ◌++◌, length, Option, Some, None, Ok, Err, if◌then◌else◌}
+-- What each step takes: a front of the bytes, at most so many, and what it answers there doesn't depend on what
+-- follows. And which errors it has.
+use Rattle.std.specs.Prelude.{◌≡◌, ◌≢◌, refl, ℕ, ◌+◌, ◌≤◌, ◌/◌, ◌%◌, ◌==◌, ◌&&◌, Bool, true, false, List, [], ◌∷◌, ◌++◌}
+use Rattle.std.specs.Prelude.{length, Option, Some, None, Ok, Err, if◌then◌else◌}
 use Rattle.std.proofs.Common.{arith, ap, sym, ◌∙◌, append_assoc, length-append}
 use Rattle.x86_operand.specs.declared.error.DecodeError.{DecodeError}
-use Rattle.x86_operand.specs.declared.error.DecodeError.TheVariants.{ExhaustedInput, InvalidOpcode, InvalidOperand, Outside}
+use Rattle.x86_operand.specs.declared.error.DecodeError.TheVariants.{ExhaustedInput, InvalidOpcode, InvalidOperand}
+use Rattle.x86_operand.specs.declared.error.DecodeError.TheVariants.{Outside}
 use Rattle.x86_operand.specs.Kind.{Kind, WithoutModRM}
-use Rattle.x86_address.specs.Reading.{Reading, ◌>>=◌, take_byte, take_doubleword, take_long, take_displacement, take_baseless, take_scaled, take_sib, take_place}
+use Rattle.x86_address.specs.Reading.{Reading, ◌>>=◌, take_byte, take_doubleword, take_long, take_displacement}
+use Rattle.x86_address.specs.Reading.{take_baseless, take_scaled, take_sib, take_place}
 use Rattle.x86_address.specs.Most.{left_by, TakesAtMost}
 use Rattle.vex_rows.specs.declared.entry.Entry.{Entry}
 use Rattle.vex_rows.specs.declared.key.Map.{Map}
@@ -14,10 +17,12 @@ use Rattle.vex_rows.specs.declared.steps.Check.TheVariants.{V0, L0, Reg, Mem, Gr
 use Rattle.vex_rows.specs.Steps.{FormSteps, steps}
 use Rattle.vex_rows.specs.Row.{Row}
 use Rattle.vex_forms.specs.Fields.{Fields}
-use Rattle.vex_forms.specs.FormWalk.{passes, refusal, check_all, kind_by, take_imm, place_by, walk_modrm, walk_alone, walk_form, row_of}
+use Rattle.vex_forms.specs.FormWalk.{passes, refusal, check_all, kind_by, take_imm, place_by, walk_modrm, walk_alone}
+use Rattle.vex_forms.specs.FormWalk.{walk_form, row_of}
 use Rattle.vex_decode.specs.Fields.{PrefixForm, C4, C5}
 use Rattle.vex_decode.specs.Spelling.{Syntax}
-use Rattle.vex_decode.specs.Walk.{map_of, fields_by_map, read_fields, form_of, read_prefix, key_of, entry_of, found, syntax_of, walk}
+use Rattle.vex_decode.specs.Walk.{map_of, fields_by_map, read_fields, form_of, read_prefix, key_of, entry_of, found}
+use Rattle.vex_decode.specs.Walk.{syntax_of, walk}
 
 -- the same answer, with other bytes left
 abbrev pub leaving : {A : Type 0} → List ℕ → Reading A → Reading A
@@ -36,7 +41,8 @@ FailsBy P (Err error) = P error.0
 
 -- the front that a step takes: it is followed by what the step leaves, which is nothing where the bytes are exhausted,
 -- and where other bytes follow it the step answers the same and leaves those
-pub record Front {A : Type 0} (P : DecodeError → Type 0) (n : ℕ) (step : List ℕ → Reading A) (bytes : List ℕ) (reading : Reading A) : Type 0 where
+pub record Front {A : Type 0} (P : DecodeError → Type 0) (n : ℕ) (step : List ℕ → Reading A) (bytes : List ℕ)
+    (reading : Reading A) : Type 0 where
   pub front : List ℕ
   pub written : bytes ≡ front ++ left_by reading
   pub most : length front ≤ n
@@ -61,30 +67,51 @@ abbrev pub rest_of : PrefixForm → List ℕ → Reading (Row × Syntax)
 rest_of form bytes = read_fields form bytes >>= (λ fields. walk_on ((form, fields.0), fields.1))
 
 -- of errors that are all so
-module _ (P : DecodeError → Type 0) (exhausted : P ExhaustedInput) (opcode : P InvalidOpcode) (operand : P InvalidOperand) where
+module _ (P : DecodeError → Type 0) (exhausted : P ExhaustedInput) (opcode : P InvalidOpcode)
+    (operand : P InvalidOperand) where
   answering : {A : Type 0} (value : A) → Fronts P 0 (λ bytes. Ok (value, bytes))
   answering value = record {
-    at = λ bytes. record { front = []; written = refl; most = omega arith; ended = λ e. absurd e; fails = tt; again = λ other none. refl };
+    at = λ bytes. record {
+      front = [];
+      written = refl;
+      most = omega arith;
+      ended = λ e. absurd e;
+      fails = tt;
+      again =
+          λ other none. refl;
+    };
   }
 
   refusing : {A : Type 0} (e : DecodeError) → e ≢ ExhaustedInput → P e → Fronts {A = A} P 0 (λ bytes. Err (e, bytes))
   refusing e other_error so = record {
-    at = λ bytes. record { front = []; written = refl; most = omega arith; ended = λ is. absurd (other_error is); fails = so; again = λ other none. refl };
+    at = λ bytes. record {
+      front = [];
+      written = refl;
+      most = omega arith;
+      ended =
+          λ is. absurd (other_error is);
+      fails = so;
+      again = λ other none. refl;
+    };
   }
 
-  both : {A B : Type 0} (m n : ℕ) (step : List ℕ → Reading A) (next : A × List ℕ → Reading B) → Fronts P m step → ((a : A) → Fronts P n (λ bytes. next (a, bytes))) → Fronts P (m + n) (λ bytes. step bytes >>= next)
+  both : {A B : Type 0} (m n : ℕ) (step : List ℕ → Reading A) (next : A × List ℕ → Reading B) → Fronts P m step
+      → ((a : A) → Fronts P n (λ bytes. next (a, bytes))) → Fronts P (m + n) (λ bytes. step bytes >>= next)
   both {A} {B} m n step next one two = record { at = λ bytes. by bytes (step bytes) (one.at bytes) }
     where
-      by : (bytes : List ℕ) (reading : Reading A) → Front P m step bytes reading → Front P (m + n) (λ bytes. step bytes >>= next) bytes (reading >>= next)
+      by : (bytes : List ℕ) (reading : Reading A) → Front P m step bytes reading
+          → Front P (m + n) (λ bytes. step bytes >>= next) bytes (reading >>= next)
       by bytes (Ok read) f =
           let g : Front P n (λ b. next (read.0, b)) read.1 (next (read.0, read.1)) = (two read.0).at read.1 in
           record {
             front = f.front ++ g.front;
-            written = f.written ∙ ap (λ tail. f.front ++ tail) g.written ∙ sym (append_assoc f.front g.front (left_by (next read)));
+            written = f.written ∙ ap (λ tail. f.front ++ tail) g.written
+                ∙ sym (append_assoc f.front g.front (left_by (next read)));
             most = omega (arith, length-append f.front g.front, f.most, g.most);
             ended = g.ended;
             fails = g.fails;
-            again = λ other none. rw (append_assoc f.front g.front other, f.again (g.front ++ other) (λ e. absurd e)) (g.again other none);
+            again = λ other none. rw (append_assoc f.front g.front other, f.again (g.front ++ other) (λ e. absurd e))
+                (g.again other none);
           }
       by bytes (Err error) f = record {
         front = f.front;
@@ -95,7 +122,8 @@ module _ (P : DecodeError → Type 0) (exhausted : P ExhaustedInput) (opcode : P
         again = λ other none. rw (f.again other none) refl;
       }
 
-  either : {A : Type 0} (n : ℕ) (test : Bool) (one other : List ℕ → Reading A) → Fronts P n one → Fronts P n other → Fronts P n (λ bytes. if test then one bytes else other bytes)
+  either : {A : Type 0} (n : ℕ) (test : Bool) (one other : List ℕ → Reading A) → Fronts P n one → Fronts P n other
+      → Fronts P n (λ bytes. if test then one bytes else other bytes)
   either n true one other p q = p
   either n false one other p q = q
 
@@ -103,35 +131,66 @@ module _ (P : DecodeError → Type 0) (exhausted : P ExhaustedInput) (opcode : P
   wider m n step within fronts = record {
     at = λ bytes.
         let f = fronts.at bytes in
-        record { front = f.front; written = f.written; most = omega (arith, f.most); ended = f.ended; fails = f.fails; again = f.again };
+        record {
+          front = f.front;
+          written = f.written;
+          most = omega (arith, f.most);
+          ended = f.ended;
+          fails =
+              f.fails;
+          again = f.again;
+        };
   }
 
   byte : Fronts P 1 take_byte
   byte = record { at = by }
     where
       by : (bytes : List ℕ) → Front P 1 take_byte bytes (take_byte bytes)
-      by [] = record { front = []; written = refl; most = omega arith; ended = λ e. refl; fails = exhausted; again = λ other none. rw (none refl) refl }
-      by (b ∷ bytes) = record { front = b ∷ []; written = refl; most = omega arith; ended = λ e. absurd e; fails = tt; again = λ other none. refl }
+      by [] = record {
+        front = [];
+        written = refl;
+        most = omega arith;
+        ended = λ e. refl;
+        fails = exhausted;
+        again =
+            λ other none. rw (none refl) refl;
+      }
+      by (b ∷ bytes) = record {
+        front = b ∷ [];
+        written = refl;
+        most = omega arith;
+        ended = λ e. absurd e;
+        fails =
+            tt;
+        again = λ other none. refl;
+      }
 
   -- ---- an address
 
   doubleword : Fronts P 4 take_doubleword
-  doubleword = both 1 3 take_byte _ byte (λ a. both 1 2 take_byte _ byte (λ b. both 1 1 take_byte _ byte (λ c. both 1 0 take_byte _ byte (λ d. answering _))))
+  doubleword = both 1 3 take_byte _ byte (λ a. both 1 2 take_byte _ byte
+      (λ b. both 1 1 take_byte _ byte (λ c. both 1 0 take_byte _ byte (λ d. answering _))))
 
   long : Fronts P 4 take_long
   long = both 4 0 take_doubleword _ doubleword (λ n. answering _)
 
   displacement : (mode : ℕ) → Fronts P 4 (take_displacement mode)
   displacement mode =
-      either 4 (mode == 0) _ _ (wider 0 4 _ (omega arith) (answering _)) (either 4 (mode == 1) _ _ (wider 1 4 _ (omega arith) (both 1 0 take_byte _ byte (λ n. answering _))) long)
+      either 4 (mode == 0) _ _ (wider 0 4 _ (omega arith) (answering _))
+      (either 4 (mode == 1) _ _ (wider 1 4 _ (omega arith) (both 1 0 take_byte _ byte (λ n. answering _))) long)
 
   sib : (mode : ℕ) → Fronts P 5 (take_sib mode)
   sib mode =
-      both 1 4 take_byte _ byte (λ s. either 4 (mode == 0 && s % 8 == 5) (take_baseless s) (take_scaled mode s) (both 4 0 take_doubleword _ doubleword (λ n. answering _)) (both 4 0 (take_displacement mode) _ (displacement mode) (λ d. answering _)))
+      both 1 4 take_byte _ byte (λ s. either 4 (mode == 0 && s % 8 == 5) (take_baseless s) (take_scaled mode s)
+      (both 4 0 take_doubleword _ doubleword (λ n. answering _))
+      (both 4 0 (take_displacement mode) _ (displacement mode) (λ d. answering _)))
 
   place : (mode rm : ℕ) → Fronts P 5 (take_place mode rm)
   place mode rm =
-      either 5 (mode == 3) _ _ (wider 0 5 _ (omega arith) (answering _)) (either 5 (rm == 4) _ _ (sib mode) (either 5 (mode == 0 && rm == 5) _ _ (wider 4 5 _ (omega arith) (both 4 0 take_doubleword _ doubleword (λ n. answering _))) (wider 4 5 _ (omega arith) (both 4 0 (take_displacement mode) _ (displacement mode) (λ d. answering _)))))
+      either 5 (mode == 3) _ _ (wider 0 5 _ (omega arith) (answering _))
+      (either 5 (rm == 4) _ _ (sib mode) (either 5 (mode == 0 && rm == 5) _ _
+      (wider 4 5 _ (omega arith) (both 4 0 take_doubleword _ doubleword (λ n. answering _)))
+      (wider 4 5 _ (omega arith) (both 4 0 (take_displacement mode) _ (displacement mode) (λ d. answering _)))))
 
   -- ---- a prefix
 
@@ -144,10 +203,13 @@ module _ (P : DecodeError → Type 0) (exhausted : P ExhaustedInput) (opcode : P
   fields C4 = both 1 1 take_byte _ byte (λ p. both 1 0 take_byte _ byte (λ q. by_map (map_of (p % 32)) p q))
 
   form : P Outside → (first : ℕ) → Fronts P 0 (form_of first)
-  form outside first = either 0 (first == 0xC5) _ _ (answering C5) (either 0 (first == 0xC4) _ _ (answering C4) (refusing Outside (λ e. cc) outside))
+  form outside first = either 0 (first == 0xC5) _ _ (answering C5)
+      (either 0 (first == 0xC4) _ _ (answering C4) (refusing Outside (λ e. cc) outside))
 
   prefix : P Outside → Fronts P 3 read_prefix
-  prefix outside = both 1 2 take_byte _ byte (λ first. both 0 2 (form_of first) _ (form outside first) (λ f. both 2 0 (read_fields f) _ (fields f) (λ fields. answering _)))
+  prefix outside = both 1 2 take_byte _ byte
+      (λ first. both 0 2 (form_of first) _ (form outside first)
+      (λ f. both 2 0 (read_fields f) _ (fields f) (λ fields. answering _)))
 
   -- ---- a form
 
@@ -172,9 +234,11 @@ module _ (P : DecodeError → Type 0) (exhausted : P ExhaustedInput) (opcode : P
   refusal_so Group = opcode
   refusal_so VifMem = operand
 
-  checks : (entry : Entry) (f : Fields) (kind : Kind) (reg : ℕ) (cs : List Check) → Fronts P 0 (check_all entry f kind reg cs)
+  checks : (entry : Entry) (f : Fields) (kind : Kind) (reg : ℕ) (cs : List Check)
+      → Fronts P 0 (check_all entry f kind reg cs)
   checks entry f kind reg [] = answering _
-  checks entry f kind reg (c ∷ cs) = either 0 (passes entry f kind reg c) _ _ (checks entry f kind reg cs) (refusing (refusal c) (refusal_other c) (refusal_so c))
+  checks entry f kind reg (c ∷ cs) = either 0 (passes entry f kind reg c) _ _ (checks entry f kind reg cs)
+      (refusing (refusal c) (refusal_other c) (refusal_so c))
 
   imm : (has : Bool) → Fronts P 1 (take_imm has)
   imm has = either 1 has _ _ byte (wider 0 1 _ (omega arith) (answering _))
@@ -185,9 +249,12 @@ module _ (P : DecodeError → Type 0) (exhausted : P ExhaustedInput) (opcode : P
   from_modrm : (entry : Entry) (f : Fields) (form : FormSteps) → Fronts P 7 (walk_modrm entry f form)
   from_modrm entry f form =
       both 1 6 take_byte _ byte (λ modrm.
-      both 0 6 (check_all entry f (kind_by entry modrm) ((modrm / 8) % 8) form.after_modrm) _ (checks entry f _ _ form.after_modrm) (λ second.
-      both 5 1 (place_by form.address (modrm / 64) (modrm % 8)) _ (place_of form.address (modrm / 64) (modrm % 8)) (λ place.
-      both 0 1 (check_all entry f (kind_by entry modrm) ((modrm / 8) % 8) form.after_address) _ (checks entry f _ _ form.after_address) (λ third.
+      both 0 6 (check_all entry f (kind_by entry modrm) ((modrm / 8) % 8) form.after_modrm) _
+      (checks entry f _ _ form.after_modrm) (λ second.
+      both 5 1 (place_by form.address (modrm / 64) (modrm % 8)) _ (place_of form.address (modrm / 64) (modrm % 8))
+      (λ place.
+      both 0 1 (check_all entry f (kind_by entry modrm) ((modrm / 8) % 8) form.after_address) _
+      (checks entry f _ _ form.after_address) (λ third.
       both 1 0 (take_imm form.imm) _ (imm form.imm) (λ imm. answering _)))))
 
   alone : (form : FormSteps) → Fronts P 7 (walk_alone form)
@@ -196,7 +263,8 @@ module _ (P : DecodeError → Type 0) (exhausted : P ExhaustedInput) (opcode : P
   form_fronts : (entry : Entry) (f : Fields) → Fronts P 7 (walk_form entry f)
   unfolding walk_form
   form_fronts entry f =
-      both 0 7 (check_all entry f WithoutModRM 0 (steps entry.form).before_modrm) _ (checks entry f WithoutModRM 0 (steps entry.form).before_modrm) (λ first.
+      both 0 7 (check_all entry f WithoutModRM 0 (steps entry.form).before_modrm) _
+      (checks entry f WithoutModRM 0 (steps entry.form).before_modrm) (λ first.
       either 7 (steps entry.form).modrm _ _ (from_modrm entry f (steps entry.form)) (alone (steps entry.form)))
 
   -- ---- an instruction, but for the settings
@@ -208,8 +276,10 @@ module _ (P : DecodeError → Type 0) (exhausted : P ExhaustedInput) (opcode : P
       both 7 0 (walk_form entry prefix.1) _ (form_fronts entry prefix.1) (λ operands. answering _)))
 
   -- after the first byte
-  pub after_form : (form : PrefixForm) → Fronts P 10 (λ bytes. (read_fields form bytes >>= (λ fields. Ok ((form, fields.0), fields.1))) >>= walk_on)
-  after_form form = both 2 8 _ walk_on (both 2 0 (read_fields form) _ (fields form) (λ fields. answering _)) after_prefix
+  pub after_form : (form : PrefixForm) → Fronts P 10
+      (λ bytes. (read_fields form bytes >>= (λ fields. Ok ((form, fields.0), fields.1))) >>= walk_on)
+  after_form form = both 2 8 _ walk_on (both 2 0 (read_fields form) _ (fields form) (λ fields. answering _))
+      after_prefix
 
   pub rest_fronts : (form : PrefixForm) → Fronts P 10 (rest_of form)
   rest_fronts form = both 2 8 (read_fields form) _ (fields form) (λ fields. after_prefix (form, fields))

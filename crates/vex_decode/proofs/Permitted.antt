@@ -32,17 +32,22 @@ unfolding IsRow
 is_vex-row row is_row = is_vex-vex_part (opcode_of row) ∙ by (vex_part (opcode_of row)) refl where
   by : (b : Bool) → vex_part (opcode_of row) ≡ b → b ≡ true
   by true e = refl
-  by false e = absurd (subst (Among (opcode_of row)) no_strays (among-filter (λ o. not (vex_part o)) (opcode_of row) (map opcode_of rows) (ap not e) (among-map opcode_of row rows is_row)))
+  by false e = absurd (subst (Among (opcode_of row)) no_strays
+      (among-filter (λ o. not (vex_part o)) (opcode_of row) (map opcode_of rows) (ap not e)
+      (among-map opcode_of row rows is_row)))
 
 -- bits that are all set stay so
-all_set-more : (settings more : List Bool) → AreWithin settings more → (places : List ℕ) → all_set settings places ≡ true → all_set more places ≡ true
+all_set-more : (settings more : List Bool) → AreWithin settings more → (places : List ℕ)
+    → all_set settings places ≡ true → all_set more places ≡ true
 all_set-more settings more within [] h = refl
 all_set-more settings more within (i ∷ places) h =
     let parts = both-parts (is_set settings i) (all_set settings places) h in
-    parts-both (is_set more i) (all_set more places) (within i parts.0) (all_set-more settings more within places parts.1)
+    parts-both (is_set more i) (all_set more places) (within i parts.0)
+    (all_set-more settings more within places parts.1)
 
 -- the opcode of a row stays permitted
-pub permits-more : (settings more : List Bool) → AreWithin settings more → (row : Row) → IsRow row → permits settings (mark_of row) (opcode_of row) ≡ true → permits more (mark_of row) (opcode_of row) ≡ true
+pub permits-more : (settings more : List Bool) → AreWithin settings more → (row : Row) → IsRow row
+    → permits settings (mark_of row) (opcode_of row) ≡ true → permits more (mark_of row) (opcode_of row) ≡ true
 unfolding mark_of
 permits-more settings more within row is_row h =
     let o = opcode_of row in

@@ -32,31 +32,40 @@ two = record { is = λ bytes. refl; noted = two_byte_rest; byte = omega arith }
 pub three : Begins C4 0xC4
 three = record { is = λ bytes. refl; noted = three_byte_rest; byte = omega arith }
 
-module _ {form : PrefixForm} {first : ℕ} (begins : Begins form first) {old new : ReaderState} {s0 s1 : SinkState FieldDescription} where
-  plain : (result : Result Decoded DecodeError) → FollowsNoting (noted_rest form) IsMeant old new s0 s1 result → Follows (rest_of form) IsMeant old new result
+module _ {form : PrefixForm} {first : ℕ} (begins : Begins form first) {old new : ReaderState}
+    {s0 s1 : SinkState FieldDescription} where
+  plain : (result : Result Decoded DecodeError) → FollowsNoting (noted_rest form) IsMeant old new s0 s1 result
+      → Follows (rest_of form) IsMeant old new result
   plain result f = follows_erased result (erases_rest form) f
 
-  pub rest_length : (bare : Decoded) → old.since_mark ≡ 1 → FollowsNoting (noted_rest form) IsMeant old new s0 s1 (Ok bare) → new.since_mark ≤ 11
+  pub rest_length : (bare : Decoded) → old.since_mark ≡ 1
+      → FollowsNoting (noted_rest form) IsMeant old new s0 s1 (Ok bare) → new.since_mark ≤ 11
   rest_length bare one f =
       let e = plain (Ok bare) f in
       omega (arith, one, e.passes.since_mark, most_taken 10 (rest_most form) (Ok bare) e)
 
-  pub rest_taken : (bare decoded : Decoded) → decoded.meaning ≡ bare.meaning → decoded.len ≡ new.since_mark → old.since_mark ≡ 1 → FollowsNoting (noted_rest form) IsMeant old new s0 s1 (Ok bare) → TakesRest first old new decoded
+  pub rest_taken : (bare decoded : Decoded) → decoded.meaning ≡ bare.meaning → decoded.len ≡ new.since_mark
+      → old.since_mark ≡ 1 → FollowsNoting (noted_rest form) IsMeant old new s0 s1 (Ok bare)
+      → TakesRest first old new decoded
   rest_taken bare decoded same len one f =
       let e = plain (Ok bare) f in
-      let walked : walk (first ∷ e.bytes) ≡ Ok (e.answers.0, []) = walk_first form first e.bytes (begins.is e.bytes) ∙ takes_all bare e in
+      let walked : walk (first ∷ e.bytes) ≡ Ok (e.answers.0, []) =
+      walk_first form first e.bytes (begins.is e.bytes) ∙ takes_all bare e in
       record {
         bytes = e.bytes;
         takes = record { passes = e.passes; uncounted = e.counts };
         most = most_taken 10 (rest_most form) (Ok bare) e;
-        spells = spelled (first ∷ e.bytes) e.answers.0 decoded.meaning (begins.byte, are_bytes e.passes) walked (same ∙ e.answers.1.meaning);
+        spells = spelled (first ∷ e.bytes) e.answers.0 decoded.meaning (begins.byte, are_bytes e.passes) walked
+            (same ∙ e.answers.1.meaning);
         len = omega (arith, len, one, e.passes.since_mark);
       }
 
-  pub rest_fails : (error : DecodeError) → FollowsNoting (noted_rest form) IsMeant old new s0 s1 (Err error) → FailsRest first old new error
+  pub rest_fails : (error : DecodeError) → FollowsNoting (noted_rest form) IsMeant old new s0 s1 (Err error)
+      → FailsRest first old new error
   rest_fails error f =
       let e = plain (Err error) f in
-      let walked : walk (first ∷ e.bytes) ≡ Err (error, []) = walk_first form first e.bytes (begins.is e.bytes) ∙ fails_at_end error e in
+      let walked : walk (first ∷ e.bytes) ≡ Err (error, []) =
+      walk_first form first e.bytes (begins.is e.bytes) ∙ fails_at_end error e in
       record {
         bytes = e.bytes;
         passes = e.passes;
@@ -65,7 +74,8 @@ module _ {form : PrefixForm} {first : ℕ} (begins : Begins form first) {old new
         fails = ap (failure (first ∷ e.bytes)) walked ∙ ap (λ n. Some (error, n)) (omega arith);
       }
 
-  pub rest_noted : (result : Result Decoded DecodeError) → FollowsNoting (noted_rest form) IsMeant old new s0 s1 result → NotesRest first old new s0 s1
+  pub rest_noted : (result : Result Decoded DecodeError) → FollowsNoting (noted_rest form) IsMeant old new s0 s1 result
+      → NotesRest first old new s0 s1
   rest_noted result f = record {
     bytes = f.bytes;
     passes = f.passes;
@@ -74,8 +84,10 @@ module _ {form : PrefixForm} {first : ℕ} (begins : Begins form first) {old new
   }
 
 -- a sink with room for all of them
-pub rest_kept : {first : ℕ} {old new : ReaderState} {s0 s1 : SinkState FieldDescription} → NotesRest first old new s0 s1 → IsSome s0.told → 11 ≤ s0.room → IsSome s1.told
+pub rest_kept : {first : ℕ} {old new : ReaderState} {s0 s1 : SinkState FieldDescription}
+    → NotesRest first old new s0 s1 → IsSome s0.told → 11 ≤ s0.room → IsSome s1.told
 rest_kept noted told room = (noted.records.kept told (omega (arith, noted.few))).0
 
-pub notes_kept : {old new : ReaderState} {s0 s1 : SinkState FieldDescription} → NotesTaken old new s0 s1 → IsSome s0.told → 11 ≤ s0.room → IsSome s1.told
+pub notes_kept : {old new : ReaderState} {s0 s1 : SinkState FieldDescription} → NotesTaken old new s0 s1
+    → IsSome s0.told → 11 ≤ s0.room → IsSome s1.told
 notes_kept noted told room = (noted.records.kept told (omega (arith, noted.few))).0

@@ -1,5 +1,6 @@
 -- A decode over a `U8Reader` that was made for a slice.
-use Rattle.std.specs.Prelude.{◌≡◌, ◌↔◌, refl, ℕ, ◌≤◌, Bool, true, List, ◌++◌, length, take, Some, None, Result, Ok, Err, IsOk, IfOk, IfErr}
+use Rattle.std.specs.Prelude.{◌≡◌, ◌↔◌, refl, ℕ, ◌≤◌, Bool, true, List, ◌++◌, length, take, Some, None, Result, Ok, Err}
+use Rattle.std.specs.Prelude.{IsOk, IfOk, IfErr}
 use Rattle.std.proofs.Common.{arith, ap, sym, ◌∙◌, subst, length-append}
 use Rattle.std.proofs.Math.Seq.{take-append_seam}
 use Rattle.x86_operand.specs.declared.error.DecodeError.{DecodeError}
@@ -29,33 +30,45 @@ some_same : {xs ys : List ℕ} → Some xs ≡ Some ys → xs ≡ ys
 some_same e = cc
 
 module _ (settings : List Bool) (bytes : List ℕ) (before after : SliceReader) (is : before.left ≡ bytes) where
-  decoded_as : (decoded : Decoded) → TakesInstruction settings (marked (slice_state before)) (slice_state after) decoded → DecodesAs settings bytes decoded
+  decoded_as : (decoded : Decoded) → TakesInstruction settings (marked (slice_state before)) (slice_state after)
+      decoded → DecodesAs settings bytes decoded
   decoded_as decoded t =
       let written : bytes ≡ t.bytes ++ after.left = sym is ∙ some_same t.takes.passes.left in
       let lengths : length bytes ≡ length (t.bytes ++ after.left) = ap length written in
-      let front : take decoded.len bytes ≡ t.bytes = ap (λ n. take n bytes) t.len ∙ ap (take (length t.bytes)) written ∙ take-append_seam t.bytes after.left in
+      let front : take decoded.len bytes ≡ t.bytes =
+      ap (λ n. take n bytes) t.len ∙ ap (take (length t.bytes)) written ∙ take-append_seam t.bytes after.left in
       record {
-        begun = ap (blocked settings) written ∙ begun-not_blocked settings t.bytes after.left decoded.meaning t.spells t.permitted;
+        begun = ap (blocked settings) written
+            ∙ begun-not_blocked settings t.bytes after.left decoded.meaning t.spells t.permitted;
         within = omega (arith, lengths, length-append t.bytes after.left, t.len);
         most = omega (arith, t.len, t.most);
         spelled = subst (λ b. Spells b decoded.meaning) (sym front) t.spells;
         permitted = t.permitted;
       }
 
-  pub over_bytes : (result : Result Decoded DecodeError) → IfOk result (TakesInstruction settings (marked (slice_state before)) (slice_state after)) → IfErr result (BlocksSlice settings (marked (slice_state before)) (slice_state after)) → DecodesSlice settings bytes result
+  pub over_bytes : (result : Result Decoded DecodeError)
+      → IfOk result (TakesInstruction settings (marked (slice_state before)) (slice_state after))
+      → IfErr result (BlocksSlice settings (marked (slice_state before)) (slice_state after))
+      → DecodesSlice settings bytes result
   over_bytes (Ok decoded) took blocks = decoded_as decoded took
-  over_bytes (Err error) took blocks =
-      (taken before.left after.left, ap (blocked settings) (sym is) ∙ blocks (record before { since_mark = 0 }) after refl refl)
+  over_bytes (Err error) took blocks = (
+    taken before.left after.left,
+    ap (blocked settings) (sym is)
+        ∙ blocks (record before { since_mark = 0 }) after refl refl,
+  )
 
 module _ (settings : List Bool) (bytes : List ℕ) where
-  pub slice_begun : (result : Result Decoded DecodeError) → DecodesSlice settings bytes result → IsOk result ↔ (blocked settings bytes ≡ None)
+  pub slice_begun : (result : Result Decoded DecodeError) → DecodesSlice settings bytes result
+      → IsOk result ↔ (blocked settings bytes ≡ None)
   slice_begun (Ok decoded) h = ((λ _. h.begun), (λ _. refl))
   slice_begun (Err error) h = ((λ k. cc), (λ k. cc (h.1)))
 
-  pub slice_ok : (P : Decoded → Type 0) (result : Result Decoded DecodeError) → DecodesSlice settings bytes result → ((decoded : Decoded) → DecodesAs settings bytes decoded → P decoded) → IfOk result P
+  pub slice_ok : (P : Decoded → Type 0) (result : Result Decoded DecodeError) → DecodesSlice settings bytes result
+      → ((decoded : Decoded) → DecodesAs settings bytes decoded → P decoded) → IfOk result P
   slice_ok P (Ok decoded) h from = from decoded h
   slice_ok P (Err error) h from = tt
 
-  pub slice_refused : (result : Result Decoded DecodeError) → DecodesSlice settings bytes result → IfErr result (λ error. (n : ℕ) × (blocked settings bytes ≡ Some (error, n)))
+  pub slice_refused : (result : Result Decoded DecodeError) → DecodesSlice settings bytes result
+      → IfErr result (λ error. (n : ℕ) × (blocked settings bytes ≡ Some (error, n)))
   slice_refused (Ok decoded) h = tt
   slice_refused (Err error) h = h

@@ -17,7 +17,8 @@ use Rattle.vex_decode.specs.Spelling.{Syntax, imm_bytes, bytes_of, FitsReg, Fits
 use Rattle.vex_decode.proofs.Prefix.{pp_below, map_below, bit_below}
 
 -- a prefix has two or three bytes
-pub prefix_length : (form : PrefixForm) (f : Fields) → (2 ≤ length (prefix_bytes form f)) × (length (prefix_bytes form f) ≤ 3)
+pub prefix_length : (form : PrefixForm) (f : Fields)
+    → (2 ≤ length (prefix_bytes form f)) × (length (prefix_bytes form f) ≤ 3)
 prefix_length C5 f = (omega arith, omega arith)
 prefix_length C4 f = (omega arith, omega arith)
 
@@ -38,7 +39,8 @@ bytes_of_length row s =
     simp length-append (omega arith, omega arith)
 
 pub spelling_length : (bytes : List ℕ) (m : Meaning) → Spells bytes m → (3 ≤ length bytes) × (length bytes ≤ 11)
-spelling_length bytes m spells = subst (λ b. (3 ≤ length b) × (length b ≤ 11)) (sym spells.by.written) (bytes_of_length spells.row spells.by.parts)
+spelling_length bytes m spells = subst (λ b. (3 ≤ length b) × (length b ≤ 11)) (sym spells.by.written)
+    (bytes_of_length spells.row spells.by.parts)
 
 -- the bytes of a prefix are bytes
 low_below : (t v l pp : ℕ) → t ≤ 1 → v ≤ 15 → l ≤ 1 → pp < 4 → 128 * t + (8 * (15 - v) + 4 * l + pp) < 256
@@ -48,11 +50,15 @@ high_below : (r x b k : ℕ) → r ≤ 1 → x ≤ 1 → b ≤ 1 → k < 32 → 
 high_below r x b k hr hx hb hk = omega arith
 
 pub IsBytes-prefix_bytes : (form : PrefixForm) (f : Fields) → IsPrefix form f → IsBytes (prefix_bytes form f)
-IsBytes-prefix_bytes C5 f is = (omega arith, (low_below (1 - f.r) f.v f.l (pp_number f.pp) (omega arith) is.v is.l (pp_below f.pp), tt))
+IsBytes-prefix_bytes C5 f is = (
+  omega arith,
+  (low_below (1 - f.r) f.v f.l (pp_number f.pp) (omega arith) is.v is.l (pp_below f.pp), tt),
+)
 IsBytes-prefix_bytes C4 f is = (
   omega arith,
   (
-    high_below (1 - f.r) (1 - bit f.x) (1 - bit f.b) (map_number f.map) (omega arith) (omega arith) (omega arith) (map_below f.map),
+    high_below (1 - f.r) (1 - bit f.x) (1 - bit f.b) (map_number f.map) (omega arith) (omega arith) (omega arith)
+        (map_below f.map),
     (low_below (bit f.w) f.v f.l (pp_number f.pp) (bit_below f.w) is.v is.l (pp_below f.pp), tt),
   ),
 )
@@ -71,8 +77,11 @@ IsBytes-bytes_of row s is_row is =
     let byte = byte_below row.entry (chosen-row row is_row).listed in
     let place = IsBytes-place_bytes s.reg s.place (reg_below (steps row.entry.form).modrm s.reg is.reg) is.place in
     let imm = IsBytes-imm_bytes (has_imm row) s.imm is.imm in
-    IsBytes-append (prefix_bytes s.form s.fields) (row.entry.byte ∷ (place_bytes s.reg s.place ++ imm_bytes (has_imm row) s.imm)) (IsBytes-prefix_bytes s.form s.fields is.prefix)
+    IsBytes-append (prefix_bytes s.form s.fields)
+    (row.entry.byte ∷ (place_bytes s.reg s.place ++ imm_bytes (has_imm row) s.imm))
+    (IsBytes-prefix_bytes s.form s.fields is.prefix)
     (byte, IsBytes-append (place_bytes s.reg s.place) (imm_bytes (has_imm row) s.imm) place imm)
 
 pub IsBytes-spelling : (bytes : List ℕ) (m : Meaning) → Spells bytes m → IsBytes bytes
-IsBytes-spelling bytes m spells = subst IsBytes (sym spells.by.written) (IsBytes-bytes_of spells.row spells.by.parts spells.is_row spells.by.fits)
+IsBytes-spelling bytes m spells = subst IsBytes (sym spells.by.written)
+    (IsBytes-bytes_of spells.row spells.by.parts spells.is_row spells.by.fits)

@@ -29,7 +29,8 @@ row_numbers = map (λ row. opcode_number (opcode_of row)) rows
 
 -- no VEX opcode is left out by the rows
 none_left_out : left_out row_numbers ≡ []
-unfolding left_out row_numbers vex_opcodes opcode_number rows choices exists has_groups steps form_row gathers groups table opcode_of
+unfolding left_out row_numbers vex_opcodes opcode_number rows choices exists has_groups steps form_row gathers groups
+    table opcode_of
 none_left_out = refl
 
 -- a VEX opcode has the number of some row's opcode
@@ -38,7 +39,8 @@ unfolding left_out
 in_rows o m = by (is_in row_numbers o) refl where
   by : (b : Bool) → is_in row_numbers o ≡ b → b ≡ true
   by true e = refl
-  by false e = absurd (subst (Among o) none_left_out (among-filter (λ o. not (is_in row_numbers o)) o vex_opcodes (ap not e) m))
+  by false e = absurd (subst (Among o) none_left_out
+      (among-filter (λ o. not (is_in row_numbers o)) o vex_opcodes (ap not e) m))
 
 -- some row gives it
 row_of : (o : Opcode) → Among o vex_opcodes → (row : Row) × IsRow row × (opcode_of row ≡ o)
@@ -48,7 +50,8 @@ row_of o m =
     let from = from-map (λ row. opcode_number (opcode_of row)) number.0 rows number.1 in
     (from.0, from.1, sym (same_opcode_equal o (opcode_of from.0) (same from.0 number.0 number.2 from.2)))
   where
-    same : (row : Row) (n : ℕ) → (opcode_number o == n) ≡ true → n ≡ opcode_number (opcode_of row) → same_opcode o (opcode_of row) ≡ true
+    same : (row : Row) (n : ℕ) → (opcode_number o == n) ≡ true → n ≡ opcode_number (opcode_of row)
+        → same_opcode o (opcode_of row) ≡ true
     same row n e is = subst (λ n. (opcode_number o == n) ≡ true) is e
 
 -- an opcode that is a VEX opcode by the test stands in the list

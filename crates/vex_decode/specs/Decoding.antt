@@ -41,7 +41,8 @@ pub record TakesBlocked (settings : List Bool) (old new : ReaderState) (error : 
 -- call succeeds
 abbrev pub CompletesDecode : {B : Type 0} → List Bool → ReaderState → ReaderState → Result B DecodeError → Type 0
 CompletesDecode settings old new result =
-    (front rest : List ℕ) (m : Meaning) → old.left ≡ Some (front ++ rest) → Spells front m → permits settings m.evex m.opcode ≡ true
+    (front rest : List ℕ) (m : Meaning) → old.left ≡ Some (front ++ rest) → Spells front m
+    → permits settings m.evex m.opcode ≡ true
     → (CountsRefusal old new → ⊥) → IsOk result
 
 -- over a `U8Reader` the error is the one that blocks the bytes that were left, after as many as were taken

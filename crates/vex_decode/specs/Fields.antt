@@ -17,7 +17,8 @@ low_byte f = 8 * (15 - f.v) + 4 * f.l + pp_number f.pp
 abbrev pub prefix_bytes : PrefixForm → Fields → List ℕ
 prefix_bytes C5 f = 0xC5 ∷ (128 * (1 - f.r) + low_byte f) ∷ []
 prefix_bytes C4 f =
-    0xC4 ∷ (128 * (1 - f.r) + 64 * (1 - bit f.x) + 32 * (1 - bit f.b) + map_number f.map) ∷ (128 * bit f.w + low_byte f) ∷ []
+    0xC4 ∷ (128 * (1 - f.r) + 64 * (1 - bit f.x) + 32 * (1 - bit f.b) + map_number f.map)
+    ∷ (128 * bit f.w + low_byte f) ∷ []
 
 -- the fields that a two-byte prefix can't say have their only values
 pub record FitsTwoBytes (f : Fields) : Type 0 where

@@ -1,5 +1,6 @@
 -- The laws of spellings.
-use Rattle.std.specs.Prelude.{◌≡◌, ◌≢◌, ◌↔◌, ℕ, ◌≤◌, Bool, true, false, List, ◌∷◌, ◌++◌, length, take, Some, None, Result, Ok, IfErr, OnOk, OnErr, IsTrue}
+use Rattle.std.specs.Prelude.{◌≡◌, ◌≢◌, ◌↔◌, ℕ, ◌≤◌, Bool, true, false, List, ◌∷◌, ◌++◌, length, take, Some, None}
+use Rattle.std.specs.Prelude.{Result, Ok, IfErr, OnOk, OnErr, IsTrue}
 use Rattle.x86_opcode.specs.declared.Opcode.{Opcode}
 use Rattle.x86_opcode.specs.Vex.{is_vex}
 use Rattle.x86_operand.specs.declared.error.DecodeError.{DecodeError}
@@ -47,7 +48,8 @@ ReadingIsSpelling =
 -- where a spelling stands first, its row and its parts are what a decode takes, whatever numbers follow
 abbrev pub SpellingIsRead : Type 0
 SpellingIsRead =
-    (bytes rest : List ℕ) (m : Meaning) (spells : Spells bytes m) → walk (bytes ++ rest) ≡ Ok ((spells.row, spells.by.parts), rest)
+    (bytes rest : List ℕ) (m : Meaning) (spells : Spells bytes m)
+    → walk (bytes ++ rest) ≡ Ok ((spells.row, spells.by.parts), rest)
 
 -- the bytes begin with a spelling of a meaning whose opcode the settings permit
 pub record BeginsPermitted (settings : List Bool) (bytes : List ℕ) : Type 0 where
@@ -59,7 +61,8 @@ pub record BeginsPermitted (settings : List Bool) (bytes : List ℕ) : Type 0 wh
 
 -- bytes are not blocked exactly where they begin with a permitted spelling
 abbrev pub BlockedOrBegun : Type 0
-BlockedOrBegun = (settings : List Bool) (bytes : List ℕ) → IsBytes bytes → blocked settings bytes ≡ None ↔ BeginsPermitted settings bytes
+BlockedOrBegun = (settings : List Bool) (bytes : List ℕ) → IsBytes bytes
+    → blocked settings bytes ≡ None ↔ BeginsPermitted settings bytes
 
 -- more bytes change nothing, other than where the bytes were exhausted
 abbrev pub MoreBytes : Type 0
@@ -69,7 +72,8 @@ MoreBytes =
 
 -- where the bytes are exhausted, all of them were taken
 abbrev pub ExhaustedAtEnd : Type 0
-ExhaustedAtEnd = (settings : List Bool) (bytes : List ℕ) (n : ℕ) → blocked settings bytes ≡ Some (ExhaustedInput, n) → n ≡ length bytes
+ExhaustedAtEnd = (settings : List Bool) (bytes : List ℕ) (n : ℕ) → blocked settings bytes ≡ Some (ExhaustedInput, n)
+    → n ≡ length bytes
 
 -- each bit that is set in the settings is set in these
 abbrev pub AreWithin : List Bool → List Bool → Type 0
@@ -96,16 +100,19 @@ SameAnswer =
 -- where bytes are blocked after n of them, those n alone are blocked by the same error, after all of them
 abbrev pub FirstBytes : Type 0
 FirstBytes =
-    (settings : List Bool) (bytes : List ℕ) (error : DecodeError) (n : ℕ) → blocked settings bytes ≡ Some (error, n) → blocked settings (take n bytes) ≡ Some (error, n)
+    (settings : List Bool) (bytes : List ℕ) (error : DecodeError) (n : ℕ) → blocked settings bytes ≡ Some (error, n)
+    → blocked settings (take n bytes) ≡ Some (error, n)
 
 -- bytes are blocked after at most 11 of them
 abbrev pub AtMostEleven : Type 0
 AtMostEleven =
-    (settings : List Bool) (bytes : List ℕ) (error : DecodeError) (n : ℕ) → blocked settings bytes ≡ Some (error, n) → (n ≤ length bytes) × (n ≤ 11)
+    (settings : List Bool) (bytes : List ℕ) (error : DecodeError) (n : ℕ) → blocked settings bytes ≡ Some (error, n)
+    → (n ≤ length bytes) × (n ≤ 11)
 
 -- the settings come last: where a step before them fails, its error blocks the bytes
 abbrev pub SettingsLast : Type 0
-SettingsLast = (settings : List Bool) (bytes : List ℕ) (error : DecodeError) (n : ℕ) → fails bytes ≡ Some (error, n) → blocked settings bytes ≡ Some (error, n)
+SettingsLast = (settings : List Bool) (bytes : List ℕ) (error : DecodeError) (n : ℕ) → fails bytes ≡ Some (error, n)
+    → blocked settings bytes ≡ Some (error, n)
 
 -- the first byte is there and is neither C4 nor C5
 pub record BeginsOutside (bytes : List ℕ) : Type 0 where
@@ -117,7 +124,8 @@ pub record BeginsOutside (bytes : List ℕ) : Type 0 where
 
 -- exactly such bytes are blocked by `Outside`, after one byte
 abbrev pub OutsideExactly : Type 0
-OutsideExactly = (settings : List Bool) (bytes : List ℕ) (n : ℕ) → blocked settings bytes ≡ Some (Outside, n) ↔ ((n ≡ 1) × BeginsOutside bytes)
+OutsideExactly = (settings : List Bool) (bytes : List ℕ) (n : ℕ)
+    → blocked settings bytes ≡ Some (Outside, n) ↔ ((n ≡ 1) × BeginsOutside bytes)
 
 -- the first n bytes spell a meaning whose opcode the settings don't permit
 pub record BeginsRefused (settings : List Bool) (bytes : List ℕ) (n : ℕ) : Type 0 where
@@ -139,7 +147,8 @@ abbrev pub VexOpcodes : Type 0
 VexOpcodes = (o : Opcode) → (is_vex o ≡ true) ↔ ((row : Row) × IsRow row × (opcode_of row ≡ o))
 
 -- what the clauses of a decode into an instruction say of its answer, over a `U8Reader`, with and without notes
-pub record Answers (settings : List Bool) (before after : SliceReader) (result : Result Unit DecodeError) (instruction : Decoded) : Type 0 where
+pub record Answers (settings : List Bool) (before after : SliceReader) (result : Result Unit DecodeError)
+    (instruction : Decoded) : Type 0 where
   pub decoded : OnOk result (TakesInstruction settings (marked (slice_state before)) (slice_state after) instruction)
   pub refused : IfErr result (TakesBlocked settings (marked (slice_state before)) (slice_state after))
   pub fresh : OnErr result (instruction ≡ no_instruction)
@@ -155,6 +164,8 @@ pub record TakeTheSame (before after before' after' : SliceReader) : Type 0 wher
 -- the same bytes
 abbrev pub NotesChangeNothing : Type 0
 NotesChangeNothing =
-    (settings : List Bool) (before after before' after' : SliceReader) (result result' : Result Unit DecodeError) (instruction instruction' : Decoded)
-    → before.left ≡ before'.left → Answers settings before after result instruction → Answers settings before' after' result' instruction'
+    (settings : List Bool) (before after before' after' : SliceReader) (result result' : Result Unit DecodeError)
+    (instruction instruction' : Decoded)
+    → before.left ≡ before'.left → Answers settings before after result instruction
+    → Answers settings before' after' result' instruction'
     → (result ≡ result') × (instruction ≡ instruction') × TakeTheSame before after before' after'

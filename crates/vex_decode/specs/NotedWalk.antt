@@ -30,7 +30,8 @@ noted_by_map (Some map) p q = noting (three_byte_notes p q) (silent (λ bytes. O
 -- the bytes of a prefix after its first
 abbrev pub noted_fields : PrefixForm → Step Fields
 noted_fields C5 = silent take_byte >> (λ p. noting (two_byte_notes p) (silent (λ bytes. Ok (fields_of_two p, bytes))))
-noted_fields C4 = silent take_byte >> (λ p. silent take_byte >> (λ q. noting (map_notes p q) (noted_by_map (map_of (p % 32)) p q)))
+noted_fields C4 = silent take_byte >> (λ p. silent take_byte >>
+    (λ q. noting (map_notes p q) (noted_by_map (map_of (p % 32)) p q)))
 
 -- the steps of an entry's form, and the row that they choose
 abbrev pub walk_row : PrefixForm → Fields → Entry → List ℕ → Reading (Row × Syntax)
@@ -41,7 +42,8 @@ walk_row form f entry bytes = do
 -- the bytes after a prefix
 abbrev pub noted_opcode : PrefixForm → Fields → Step (Row × Syntax)
 noted_opcode form f =
-    silent take_byte >> (λ byte. silent (found (entry_of (key_of f byte))) >> (λ entry. noting (opcode_notes form entry) (silent (walk_row form f entry))))
+    silent take_byte >> (λ byte. silent (found (entry_of (key_of f byte))) >>
+    (λ entry. noting (opcode_notes form entry) (silent (walk_row form f entry))))
 
 -- the bytes after the first
 abbrev pub noted_rest : PrefixForm → Step (Row × Syntax)

@@ -1,10 +1,12 @@
 -- The notes on the bytes that a decode has taken: the first and the last bit, and what stands there. Bits are counted
 -- from the first byte on; of each byte the lowest comes first. What a note says of a bit is of the bit as it stands in
 -- the byte.
-use Rattle.std.specs.Prelude.{ℕ, ◌+◌, ◌-◌, ◌/◌, ◌%◌, ◌^◌, Bool, ◌==◌, List, [], ◌∷◌, ◌++◌, Option, Some, None, if◌then◌else◌}
+use Rattle.std.specs.Prelude.{ℕ, ◌+◌, ◌-◌, ◌/◌, ◌%◌, ◌^◌, Bool, ◌==◌, List, [], ◌∷◌, ◌++◌, Option, Some, None}
+use Rattle.std.specs.Prelude.{if◌then◌else◌}
 use Rattle.x86_reader.specs.Sink.{Triple}
 use Rattle.x86_operand.specs.declared.note.Note.{Note}
-use Rattle.x86_operand.specs.declared.note.Note.TheVariants.{P0, P1, P2, P3, M1, M2, M3, MOther, R0, R1, X0, X1, B0, B1, L0, L1, W1, W0, PrefixEnd, OpcodeEnd}
+use Rattle.x86_operand.specs.declared.note.Note.TheVariants.{P0, P1, P2, P3, M1, M2, M3, MOther, R0, R1, X0, X1, B0, B1}
+use Rattle.x86_operand.specs.declared.note.Note.TheVariants.{L0, L1, W1, W0, PrefixEnd, OpcodeEnd}
 use Rattle.x86_operand.specs.declared.note.InnerDescription.{InnerDescription}
 use Rattle.x86_operand.specs.declared.note.InnerDescription.TheVariants.{Misc, RegisterNumber, Opcode, Boundary}
 use Rattle.x86_operand.specs.declared.note.FieldDescription.{FieldDescription}
@@ -78,7 +80,8 @@ opcode_start C4 = 24
 -- the notes on an opcode byte from this bit on, once its entry is found: the opcode that the entry announces
 abbrev pub opcode_notes_at : ℕ → Entry → List NoteAt
 opcode_notes_at start entry =
-    note_at start (start + 7) start (Opcode entry.opcode) ∷ note_at (start + 7) (start + 7) (start + 7) (Boundary OpcodeEnd) ∷ []
+    note_at start (start + 7) start (Opcode entry.opcode)
+    ∷ note_at (start + 7) (start + 7) (start + 7) (Boundary OpcodeEnd) ∷ []
 
 abbrev pub opcode_notes : PrefixForm → Entry → List NoteAt
 opcode_notes form entry = opcode_notes_at (opcode_start form) entry

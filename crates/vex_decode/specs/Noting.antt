@@ -36,13 +36,17 @@ noting notes step bytes = (notes ++ (step bytes).0, (step bytes).1)
 
 -- these notes are the step's at these bytes, and the call answered what the step answers there, whatever follows them;
 -- where they were exhausted, nothing does
-abbrev pub AnswersNoting : {D A B : Type 0} → Noting D A → (A → B → Type 0) → List ℕ → List (Triple D) → Result B DecodeError → Type 0
-AnswersNoting {D} {A} step IsSo bytes notes (Ok answer) = (value : A) × IsSo value answer × ((rest : List ℕ) → step (bytes ++ rest) ≡ (notes, Ok (value, rest)))
-AnswersNoting {D} {A} step IsSo bytes notes (Err error) = (rest : List ℕ) → (error ≡ ExhaustedInput → rest ≡ []) → step (bytes ++ rest) ≡ (notes, Err (error, rest))
+abbrev pub AnswersNoting : {D A B : Type 0} → Noting D A → (A → B → Type 0) → List ℕ → List (Triple D)
+    → Result B DecodeError → Type 0
+AnswersNoting {D} {A} step IsSo bytes notes (Ok answer) =
+    (value : A) × IsSo value answer × ((rest : List ℕ) → step (bytes ++ rest) ≡ (notes, Ok (value, rest)))
+AnswersNoting {D} {A} step IsSo bytes notes (Err error) =
+    (rest : List ℕ) → (error ≡ ExhaustedInput → rest ≡ []) → step (bytes ++ rest) ≡ (notes, Err (error, rest))
 
 -- the reader gave some bytes and no others, the call answered what the step answers at them, and the sink was given the
 -- step's notes on them
-pub record FollowsNoting {D A B : Type 0} (step : Noting D A) (IsSo : A → B → Type 0) (old new : ReaderState) (sink_old sink_new : SinkState D) (result : Result B DecodeError) : Type 0 where
+pub record FollowsNoting {D A B : Type 0} (step : Noting D A) (IsSo : A → B → Type 0) (old new : ReaderState)
+    (sink_old sink_new : SinkState D) (result : Result B DecodeError) : Type 0 where
   pub bytes : List ℕ
   pub notes : List (Triple D)
   pub passes : Passes old new bytes

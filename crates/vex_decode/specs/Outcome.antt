@@ -12,7 +12,8 @@ abbrev pub Took : List Bool → ReaderState → ReaderState → Result Decoded D
 Took settings old new (Ok decoded) = TakesInstruction settings old new decoded
 Took settings old new (Err error) = TakesBlocked settings old new error × BlocksSlice settings old new error
 
-pub record Decodes (settings : List Bool) (old new : ReaderState) (sink_old sink_new : SinkState FieldDescription) (result : Result Decoded DecodeError) : Type 0 where
+pub record Decodes (settings : List Bool) (old new : ReaderState) (sink_old sink_new : SinkState FieldDescription)
+    (result : Result Decoded DecodeError) : Type 0 where
   pub took : Took settings old new result
   pub complete : CompletesDecode settings old new result
   pub noted : NotesTaken old new sink_old sink_new

@@ -22,7 +22,8 @@ pub record Syntax : Type 0 where
 -- the bytes of a spelling: prefix, opcode byte, ModRM with SIB and displacement, immediate (Intel SDM volume 2, section
 -- 2.3.1)
 abbrev pub bytes_of : Row → Syntax → List ℕ
-bytes_of row s = prefix_bytes s.form s.fields ++ row.entry.byte ∷ (place_bytes s.reg s.place ++ imm_bytes (has_imm row) s.imm)
+bytes_of row s = prefix_bytes s.form s.fields ++ row.entry.byte
+    ∷ (place_bytes s.reg s.place ++ imm_bytes (has_imm row) s.imm)
 
 -- what a spelling means: the row's kind says whether the index of an address is a vector register
 abbrev pub meant : Row → Syntax → Meaning

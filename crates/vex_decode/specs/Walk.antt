@@ -1,4 +1,5 @@
-use Rattle.std.specs.Prelude.{ℕ, ◌-◌, ◌/◌, ◌%◌, Bool, false, ◌==◌, List, Option, Some, None, Ok, Err, if◌then◌else◌, find}
+use Rattle.std.specs.Prelude.{ℕ, ◌-◌, ◌/◌, ◌%◌, Bool, false, ◌==◌, List, Option, Some, None, Ok, Err, if◌then◌else◌}
+use Rattle.std.specs.Prelude.{find}
 use Rattle.x86_operand.specs.declared.error.DecodeError.TheVariants.{InvalidOpcode, Outside}
 use Rattle.x86_address.specs.Reading.{Reading, ◌>>=◌, take_byte}
 use Rattle.vex_rows.specs.declared.entry.Entry.{Entry}
@@ -70,7 +71,8 @@ read_fields C4 bytes = do
 
 -- the first byte says the form of the prefix (Intel SDM volume 2, section 2.3.5.1)
 abbrev pub form_of : ℕ → List ℕ → Reading PrefixForm
-form_of first rest = if first == 0xC5 then Ok (C5, rest) else if first == 0xC4 then Ok (C4, rest) else Err (Outside, rest)
+form_of first rest = if first == 0xC5 then Ok (C5, rest) else if first == 0xC4 then Ok (C4, rest) else Err
+    (Outside, rest)
 
 -- the prefix: its first byte says its form
 abbrev pub read_prefix : List ℕ → Reading (PrefixForm × Fields)

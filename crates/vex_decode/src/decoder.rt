@@ -1,12 +1,14 @@
 //! Decoding an instruction from a slice or a reader, under settings.
 
-ghost use Rattle.std.specs.Prelude.{◌≡◌, ◌≤◌, ◌↔◌, length, take, ℕ, IsOk, IfOk, IfErr, OnOk, OnErr, IsSome, Some, None, true};
+ghost use Rattle.std.specs.Prelude.{◌≡◌, ◌≤◌, ◌↔◌, length, take, ℕ, IsOk, IfOk, IfErr, OnOk, OnErr, IsSome, Some, None};
+ghost use Rattle.std.specs.Prelude.{true};
 ghost use Rattle.x86_permit.specs.Permission.{permits};
 ghost use Rattle.x86_reader.specs.Reader.{marked};
 ghost use Rattle.vex_forms.specs.Operands.{made};
 ghost use Rattle.vex_decode.specs.Spelling.{Spells};
 ghost use Rattle.vex_decode.specs.Blocked.{blocked};
-ghost use Rattle.vex_decode.specs.Decoding.{TakesInstruction, TakesBlocked, CompletesDecode, BlocksSlice, NotesTaken, no_instruction};
+ghost use Rattle.vex_decode.specs.Decoding.{TakesInstruction, TakesBlocked, CompletesDecode, BlocksSlice, NotesTaken};
+ghost use Rattle.vex_decode.specs.Decoding.{no_instruction};
 ghost use Rattle.vex_decode.specs.Outcome.{Decodes};
 
 use crate::reading::read_instruction;
@@ -42,7 +44,8 @@ pub trait Decoder {
         ensures within { IfOk result (λ decoded. decoded.len ≤ length bytes.now) }
         ensures most { IfOk result (λ decoded. decoded.len ≤ 11) }
         ensures spelled { IfOk result (λ decoded. Spells (take decoded.len bytes.now) decoded.meaning) }
-        ensures permitted { IfOk result (λ decoded. permits (settings self.now) decoded.meaning.evex decoded.meaning.opcode ≡ true) }
+        ensures permitted { IfOk result (λ decoded. permits (settings self.now) decoded.meaning.evex
+            decoded.meaning.opcode ≡ true) }
 
         // The error is the one that blocks the bytes.
         ensures refused { IfErr result (λ error. (n : ℕ) × (blocked (settings self.now) bytes.now ≡ Some (error, n))) };
@@ -92,7 +95,8 @@ pub trait Decoder {
         ensures complete { CompletesDecode (settings self.now) (marked (R.state words.old)) (R.state words.new) result }
         ensures slice { IfErr result
             (BlocksSlice (settings self.now) (marked (R.state words.old)) (R.state words.new)) }
-        ensures noted { NotesTaken (marked (R.state words.old)) (R.state words.new) (S.state sink.old) (S.state sink.new) }
+        ensures noted { NotesTaken (marked (R.state words.old)) (R.state words.new) (S.state sink.old)
+            (S.state sink.new) }
         ensures kept { IsSome (S.state sink.old).told → 11 ≤ (S.state sink.old).room → IsSome (S.state sink.new).told };
 }
 

@@ -1,6 +1,9 @@
 //! What holds of all spellings and of all decodes, each law as the contract of a function that does nothing.
 
-ghost use Rattle.vex_decode.specs.Laws.{PrefixFree, SpellingLength, SpellingBytes, OneMeaning, ReadingIsSpelling, SpellingIsRead, BlockedOrBegun, MoreBytes, ExhaustedAtEnd, MoreSettings, SameAnswer, FirstBytes, AtMostEleven, SettingsLast, OutsideExactly, SettingsAlone, VexOpcodes, NotesChangeNothing};
+ghost use Rattle.vex_decode.specs.Laws.{PrefixFree, SpellingLength, SpellingBytes, OneMeaning, ReadingIsSpelling};
+ghost use Rattle.vex_decode.specs.Laws.{SpellingIsRead, BlockedOrBegun, MoreBytes, ExhaustedAtEnd, MoreSettings};
+ghost use Rattle.vex_decode.specs.Laws.{SameAnswer, FirstBytes, AtMostEleven, SettingsLast, OutsideExactly};
+ghost use Rattle.vex_decode.specs.Laws.{SettingsAlone, VexOpcodes, NotesChangeNothing};
 
 /// If one spelling begins another they are equal, and every spelling is a string of 3 to 11 bytes.
 pub fn prefix_free()
@@ -33,8 +36,8 @@ pub fn blocked_or_begun()
     ensures exhausted { ExhaustedAtEnd }
 {}
 
-/// Where bytes are blocked after n of them, n is at most 11, and those n bytes alone are blocked by the same error, after
-/// all of them.
+/// Where bytes are blocked after n of them, n is at most 11, and those n bytes alone are blocked by the same error,
+/// after all of them.
 pub fn blocked_by_first_bytes()
     ensures alone { FirstBytes }
     ensures most { AtMostEleven }
@@ -59,8 +62,8 @@ pub fn vex_opcodes()
     ensures { VexOpcodes }
 {}
 
-/// Over a `U8Reader`, `decode_with_annotation` gives the answer and the instruction that `decode_into` gives on the same
-/// bytes and settings, and takes the same bytes, whatever the sink is.
+/// Over a `U8Reader`, `decode_with_annotation` gives the answer and the instruction that `decode_into` gives on the
+/// same bytes and settings, and takes the same bytes, whatever the sink is.
 pub fn notes_change_nothing()
     ensures { NotesChangeNothing }
 {}

@@ -1,5 +1,5 @@
-//! What a VEX instruction is, byte by byte, and where a string of bytes fails to be one: decoding from a slice or a reader,
-//! under settings.
+//! What a VEX instruction is, byte by byte, and where a string of bytes fails to be one: decoding from a slice or a
+//! reader, under settings.
 //!
 //! ```
 //! use vex_decode::Decoder;

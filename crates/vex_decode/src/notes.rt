@@ -4,7 +4,8 @@
 ghost use Rattle.std.specs.Prelude.{◌≡◌, ◌+◌, [], ◌∷◌, ◌%◌, ◌<◌};
 ghost use Rattle.x86_operand.specs.declared.note.InnerDescription.TheVariants.{Misc};
 ghost use Rattle.x86_reader.specs.Sink.{Records};
-ghost use Rattle.vex_decode.specs.Notes.{note_at, bit_set, by_bit, p_note, m_note, vvvv_note, two_byte_notes, map_notes, bit_notes, three_byte_notes, opcode_notes_at};
+ghost use Rattle.vex_decode.specs.Notes.{note_at, bit_set, by_bit, p_note, m_note, vvvv_note, two_byte_notes};
+ghost use Rattle.vex_decode.specs.Notes.{map_notes, bit_notes, three_byte_notes, opcode_notes_at};
 
 use crate::prefix_fields::{is_set, vvvv};
 use vex_rows::Entry;

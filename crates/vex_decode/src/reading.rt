@@ -11,7 +11,8 @@ ghost use Rattle.vex_forms.specs.Operands.{blank, made};
 ghost use Rattle.vex_decode.specs.Fields.{PrefixForm, C4, C5};
 ghost use Rattle.vex_decode.specs.Walk.{key_of, entry_of, found};
 ghost use Rattle.vex_decode.specs.Noting.{FollowsNoting};
-ghost use Rattle.vex_decode.specs.NotedWalk.{noted_fields, noted_opcode, noted_rest, noted_walk, AreFields, IsMeant, HasEntry};
+ghost use Rattle.vex_decode.specs.NotedWalk.{noted_fields, noted_opcode, noted_rest, noted_walk, AreFields, IsMeant};
+ghost use Rattle.vex_decode.specs.NotedWalk.{HasEntry};
 ghost use Rattle.vex_decode.specs.Notes.{opcode_start};
 
 use crate::notes::{note_map, note_opcode, note_three_bytes, note_two_bytes};

@@ -1,6 +1,5 @@
 -- Runs, computed at examples: byte j of vector i is 16i + j, number i is 32i, and of the 1,024 bytes of the memory byte
--- k is
--- k, all modulo 256.
+-- k is k, all modulo 256.
 use Rattle.std.specs.Prelude.{◌≡◌, refl, ℕ, ◌*◌, ◌%◌, List, [], ◌∷◌, map, slice_index_or, Ok, Err}
 use Rattle.std.specs.List.{range_with_len}
 use Rattle.std.specs.Simd.Lanes.{chunk}
@@ -47,7 +46,7 @@ vector_after code i = slice_index_or (run_of code).0.vectors i []
 -- VPADDB x0, x1, x2: the sums of the bytes, and zeros above
 sums : vector_after (0xC5 ∷ 0xF1 ∷ 0xFC ∷ 0xC2 ∷ []) 0
     ≡ 0x30 ∷ 0x32 ∷ 0x34 ∷ 0x36 ∷ 0x38 ∷ 0x3A ∷ 0x3C ∷ 0x3E ∷ 0x40 ∷ 0x42 ∷ 0x44 ∷ 0x46 ∷ 0x48 ∷ 0x4A ∷ 0x4C ∷ 0x4E ∷
-      0x00 ∷ 0x00 ∷ 0x00 ∷ 0x00 ∷ 0x00 ∷ 0x00 ∷ 0x00 ∷ 0x00 ∷ 0x00 ∷ 0x00 ∷ 0x00 ∷ 0x00 ∷ 0x00 ∷ 0x00 ∷ 0x00 ∷ 0x00 ∷ []
+    0x00 ∷ 0x00 ∷ 0x00 ∷ 0x00 ∷ 0x00 ∷ 0x00 ∷ 0x00 ∷ 0x00 ∷ 0x00 ∷ 0x00 ∷ 0x00 ∷ 0x00 ∷ 0x00 ∷ 0x00 ∷ 0x00 ∷ 0x00 ∷ []
 unfolding ran_from step kind_of vector_in source_of combine_of move_of work_of place_of base_part index_part general
     fetched stored combined moved lane_wise result_of walk walk_form entry_of has_key table steps form_row groups
     has_groups mark_of opcode_of has_imm permits opcode_condition slots index_bank gathers size_of sizes v_rule gives
@@ -70,7 +69,7 @@ stores = refl
 -- VMOVDQU x0 of the last 16 bytes of the memory: number 5 and 848 make 1,008
 loads : vector_after (0xC5 ∷ 0xFA ∷ 0x6F ∷ 0x85 ∷ 0x50 ∷ 0x03 ∷ 0x00 ∷ 0x00 ∷ []) 0
     ≡ 0xF0 ∷ 0xF1 ∷ 0xF2 ∷ 0xF3 ∷ 0xF4 ∷ 0xF5 ∷ 0xF6 ∷ 0xF7 ∷ 0xF8 ∷ 0xF9 ∷ 0xFA ∷ 0xFB ∷ 0xFC ∷ 0xFD ∷ 0xFE ∷ 0xFF ∷
-      0x00 ∷ 0x00 ∷ 0x00 ∷ 0x00 ∷ 0x00 ∷ 0x00 ∷ 0x00 ∷ 0x00 ∷ 0x00 ∷ 0x00 ∷ 0x00 ∷ 0x00 ∷ 0x00 ∷ 0x00 ∷ 0x00 ∷ 0x00 ∷ []
+    0x00 ∷ 0x00 ∷ 0x00 ∷ 0x00 ∷ 0x00 ∷ 0x00 ∷ 0x00 ∷ 0x00 ∷ 0x00 ∷ 0x00 ∷ 0x00 ∷ 0x00 ∷ 0x00 ∷ 0x00 ∷ 0x00 ∷ 0x00 ∷ []
 unfolding ran_from step kind_of vector_in source_of combine_of move_of work_of place_of base_part index_part general
     fetched stored combined moved lane_wise result_of walk walk_form entry_of has_key table steps form_row groups
     has_groups mark_of opcode_of has_imm permits opcode_condition slots index_bank gathers size_of sizes v_rule gives

@@ -1,6 +1,8 @@
 -- The same bytes as lanes of k bytes, and back: what a vector's change of lanes computes is `lanes` and `bytes_of`.
-use Rattle.std.proofs.Common.{◌≡◌, refl, sym, ◌∙◌, ap, subst, ℕ, zero, suc, ◌+◌, ◌*◌, ◌-◌, ◌/◌, ◌%◌, ◌^◌, ◌<◌, List, [], ◌∷◌, ◌++◌, length, take, drop, arith, Bool, true, false, cond, eqb, map}
-use Rattle.std.proofs.Math.Nat.{pow-zero, pow-suc, mul_comm, mul_assoc, mul-suc, mul-zero, mod-eq_of_lt, div-eq_of_lt, one-le-pow, add-mul-div_left, add-mul-mod_self_left, mod-lt, add-zero}
+use Rattle.std.proofs.Common.{◌≡◌, refl, sym, ◌∙◌, ap, subst, ℕ, zero, suc, ◌+◌, ◌*◌, ◌-◌, ◌/◌, ◌%◌, ◌^◌, ◌<◌, List, []}
+use Rattle.std.proofs.Common.{◌∷◌, ◌++◌, length, take, drop, arith, Bool, true, false, cond, eqb, map}
+use Rattle.std.proofs.Math.Nat.{pow-zero, pow-suc, mul_comm, mul_assoc, mul-suc, mul-zero, mod-eq_of_lt, div-eq_of_lt}
+use Rattle.std.proofs.Math.Nat.{one-le-pow, add-mul-div_left, add-mul-mod_self_left, mod-lt, add-zero}
 use Rattle.std.specs.Simd.Lanes.{zip2, Each1, number_l, digits_l, top, sel_l}
 use Rattle.std.specs.Int.{w8}
 use mir.Val.{Fits}
@@ -12,7 +14,10 @@ use Rattle.vex_emul.specs.declared.operation.Lane.TheVariants.{Byte}
 
 -- a lane below p, and what follows it
 parted : (p x r : ℕ) → x < p → ((x + p * r) % p ≡ x) × ((x + p * r) / p ≡ r)
-parted p x r lt = (add-mul-mod_self_left x p r ∙ mod-eq_of_lt lt, omega (arith, add-mul-div_left x r {y = p} (omega arith), div-eq_of_lt lt))
+parted p x r lt = (
+  add-mul-mod_self_left x p r ∙ mod-eq_of_lt lt,
+  omega (arith, add-mul-div_left x r {y = p} (omega arith), div-eq_of_lt lt),
+)
 
 below-drop : (m : ℕ) (xs : List ℕ) → Each1 (λ x. x < 256) xs → Each1 (λ x. x < 256) (drop m xs)
 below-drop zero xs h = h
@@ -42,7 +47,8 @@ number-split m xs h =
     let parts = parted (256 ^ m) (number_l 256 (take m xs)) (number_l 256 (drop m xs)) (number-below m xs h) in
     (ap (λ n. n % 256 ^ m) joined ∙ parts.0, ap (λ n. n / 256 ^ m) joined ∙ parts.1)
 
-digits-split : (k j y r : ℕ) → y < 256 ^ k → digits_l 256 (k + j) (y + 256 ^ k * r) ≡ digits_l 256 k y ++ digits_l 256 j r
+digits-split : (k j y r : ℕ) → y < 256 ^ k
+    → digits_l 256 (k + j) (y + 256 ^ k * r) ≡ digits_l 256 k y ++ digits_l 256 j r
 digits-split zero j y r lt =
     let none : y + 256 ^ 0 * r ≡ r = omega (arith, pow-zero 256, ap (λ p. p * r) (pow-zero 256)) in
     let same : 0 + j ≡ j = omega arith in
@@ -60,16 +66,19 @@ digits-split (suc k) j y r lt =
     ∙ (λ i. first i ∷ digits_l 256 (k + j) (above i))
     ∙ ap (λ l. y % 256 ∷ l) (digits-split k j (y / 256) r small)
 
-lanes-digits : (k n q : ℕ) (xs : List ℕ) → q ≡ 256 ^ k → Each1 (λ x. x < 256) xs → digits_l q n (number_l 256 xs) ≡ lanes k n xs
+lanes-digits : (k n q : ℕ) (xs : List ℕ) → q ≡ 256 ^ k → Each1 (λ x. x < 256) xs
+    → digits_l q n (number_l 256 xs) ≡ lanes k n xs
 lanes-digits k zero q xs e h = refl
 lanes-digits k (suc n) q xs e h =
     let parts = number-split k xs h in
     let first : number_l 256 xs % q ≡ number_l 256 (take k xs) = ap (λ m. number_l 256 xs % m) e ∙ parts.0 in
     let others : digits_l q n (number_l 256 xs / q) ≡ lanes k n (drop k xs) =
-    ap (λ m. digits_l q n (number_l 256 xs / m)) e ∙ ap (digits_l q n) parts.1 ∙ lanes-digits k n q (drop k xs) e (below-drop k xs h) in
+    ap (λ m. digits_l q n (number_l 256 xs / m)) e ∙ ap (digits_l q n) parts.1
+    ∙ lanes-digits k n q (drop k xs) e (below-drop k xs h) in
     λ i. first i ∷ others i
 
-bytes-digits : (k q m : ℕ) (ys : List ℕ) → q ≡ 256 ^ k → m ≡ k * length ys → Each1 (λ y. y < q) ys → digits_l 256 m (number_l q ys) ≡ bytes_of k ys
+bytes-digits : (k q m : ℕ) (ys : List ℕ) → q ≡ 256 ^ k → m ≡ k * length ys → Each1 (λ y. y < q) ys
+    → digits_l 256 m (number_l q ys) ≡ bytes_of k ys
 bytes-digits k q m [] e long h = ap (λ n. digits_l 256 n 0) (long ∙ mul-zero k)
 bytes-digits k q m (y ∷ ys) e long h =
     ap (λ n. digits_l 256 n (y + q * number_l q ys)) (long ∙ omega (arith, mul-suc k (length ys)))
@@ -84,16 +93,20 @@ length-lanes k (suc n) xs = ap suc (length-lanes k n (drop k xs))
 -- a change to lanes of k bytes, an operation lane by lane, and the change back
 pub lane_wise-digits : (f : ℕ → ℕ → ℕ) (k n q m : ℕ) (v e : List ℕ) → q ≡ 256 ^ k → m ≡ k * n → ((x y : ℕ) → f x y < q)
     → Each1 (λ x. x < 256) v → Each1 (λ x. x < 256) e
-    → digits_l 256 m (number_l q (zip2 f (digits_l q n (number_l 256 v)) (digits_l q n (number_l 256 e)))) ≡ lane_wise f k n v e
+    → digits_l 256 m (number_l q (zip2 f (digits_l q n (number_l 256 v)) (digits_l q n (number_l 256 e))))
+    ≡ lane_wise f k n v e
 unfolding lane_wise
 lane_wise-digits f k n q m v e is_q long small hv he =
     (λ i. digits_l 256 m (number_l q (zip2 f (lanes-digits k n q v is_q hv i) (lanes-digits k n q e is_q he i))))
     ∙ bytes-digits k q m (zip2 f (lanes k n v) (lanes k n e)) is_q
-    (long ∙ ap (λ j. k * j) (sym (length-zip2 f (lanes k n v) (lanes k n e) (length-lanes k n v ∙ sym (length-lanes k n e)) ∙ length-lanes k n v)))
-    (Each1-zip2 f (λ z. z < q) (lanes k n v) (lanes k n e) (Each2-all (λ x y. f x y < q) small (lanes k n v) (lanes k n e)))
+    (long ∙ ap (λ j. k * j) (sym (length-zip2 f (lanes k n v) (lanes k n e)
+    (length-lanes k n v ∙ sym (length-lanes k n e)) ∙ length-lanes k n v)))
+    (Each1-zip2 f (λ z. z < q) (lanes k n v) (lanes k n e)
+    (Each2-all (λ x y. f x y < q) small (lanes k n v) (lanes k n e)))
 
 -- bytes as they are, which are lanes of one byte
-pub lane_wise-bytes : (f : ℕ → ℕ → ℕ) (n : ℕ) (v e : List ℕ) → length v ≡ n → length e ≡ n → ((x y : ℕ) → f x y < 256) → zip2 f v e ≡ lane_wise f 1 n v e
+pub lane_wise-bytes : (f : ℕ → ℕ → ℕ) (n : ℕ) (v e : List ℕ) → length v ≡ n → length e ≡ n → ((x y : ℕ) → f x y < 256)
+    → zip2 f v e ≡ lane_wise f 1 n v e
 unfolding lane_wise
 lane_wise-bytes f zero [] [] lv le small = refl
 lane_wise-bytes f zero [] (y ∷ ys) lv le small = absurd (omega arith)
@@ -138,15 +151,18 @@ on_bytes f small lane n v e result is lv le whole computed =
     ∙ ap (λ l. by_lanes f l n v e) (sym is)
 
 -- on m wider lanes, whose range is q
-pub on_lanes : (f : ℕ → ℕ → ℕ → ℕ) → ((k x y : ℕ) → f k x y < 256 ^ k) → (lane given : Lane) (q m n : ℕ) (v e result : List ℕ)
+pub on_lanes : (f : ℕ → ℕ → ℕ → ℕ) → ((k x y : ℕ) → f k x y < 256 ^ k)
+    → (lane given : Lane) (q m n : ℕ) (v e result : List ℕ)
     → lane ≡ given → q ≡ 256 ^ size_of_lane given → n / size_of_lane given ≡ m → n ≡ size_of_lane given * m
     → Each1 (Fits w8) v → Each1 (Fits w8) e
-    → result ≡ digits_l 256 n (number_l q (zip2 (f (size_of_lane given)) (digits_l q m (number_l 256 v)) (digits_l q m (number_l 256 e))))
+    → result ≡ digits_l 256 n (number_l q (zip2 (f (size_of_lane given)) (digits_l q m (number_l 256 v))
+    (digits_l q m (number_l 256 e))))
     → result ≡ by_lanes f lane n v e
 on_lanes f small lane given q m n v e result is range count long fits_v fits_e computed =
     let k = size_of_lane given in
     computed
-    ∙ lane_wise-digits (f k) k m q n v e range long (λ x y. subst (λ p. f k x y < p) (sym range) (small k x y)) (below_from_Fits w8 v fits_v) (below_from_Fits w8 e fits_e)
+    ∙ lane_wise-digits (f k) k m q n v e range long (λ x y. subst (λ p. f k x y < p) (sym range) (small k x y))
+    (below_from_Fits w8 v fits_v) (below_from_Fits w8 e fits_e)
     ∙ ap (λ j. lane_wise (f k) k j v e) (sym count)
     ∙ ap (λ l. by_lanes f l n v e) (sym is)
 
@@ -173,7 +189,8 @@ pub compared-lanes : (lane given : Lane) (h q m n : ℕ) (v e result : List ℕ)
     → lane ≡ given → q ≡ 256 ^ size_of_lane given → n / size_of_lane given ≡ m → n ≡ size_of_lane given * m
     → top h (256 ^ size_of_lane given - 1) ≡ true → top h 0 ≡ false
     → Each1 (Fits w8) v → Each1 (Fits w8) e
-    → result ≡ digits_l 256 n (number_l q (zip2 (compared h (256 ^ size_of_lane given - 1)) (digits_l q m (number_l 256 v)) (digits_l q m (number_l 256 e))))
+    → result ≡ digits_l 256 n (number_l q (zip2 (compared h (256 ^ size_of_lane given - 1))
+    (digits_l q m (number_l 256 v)) (digits_l q m (number_l 256 e))))
     → result ≡ by_lanes equality_in lane n v e
 compared-lanes lane given h q m n v e result is range count long set unset fits_v fits_e computed =
     let k = size_of_lane given in
@@ -184,7 +201,8 @@ compared-lanes lane given h q m n v e result is range count long set unset fits_
     (digits_l q m (number_l 256 v)) (digits_l q m (number_l 256 e))))
 
 selected : (n : ℕ) (v e : List ℕ) → length v ≡ n → length e ≡ n
-    → sel_l (map (top 7) (zip2 (λ x y. cond (eqb x y) 255 0) v e)) (replicate n 255) (replicate n 0) ≡ zip2 (compared 7 255) v e
+    → sel_l (map (top 7) (zip2 (λ x y. cond (eqb x y) 255 0) v e)) (replicate n 255) (replicate n 0)
+    ≡ zip2 (compared 7 255) v e
 selected zero [] e lv le = refl
 selected zero (x ∷ v) e lv le = absurd (omega arith)
 selected (suc n) [] e lv le = refl
@@ -197,4 +215,5 @@ pub compared-bytes : (lane : Lane) (n : ℕ) (v e result : List ℕ) → lane �
     → result ≡ by_lanes equality_in lane n v e
 compared-bytes lane n v e result is lv le whole computed =
     on_bytes equality_in equality-small lane n v e result is lv le whole
-    (computed ∙ selected n v e lv le ∙ zip2-same (compared 7 255) (equality_in 1) (λ x y. compared-is 7 255 x y refl refl) v e)
+    (computed ∙ selected n v e lv le ∙ zip2-same (compared 7 255) (equality_in 1)
+    (λ x y. compared-is 7 255 x y refl refl) v e)

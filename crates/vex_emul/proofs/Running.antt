@@ -1,5 +1,7 @@
 -- A run, instruction by instruction.
-use Rattle.std.proofs.Common.{◌≡◌, refl, sym, ◌∙◌, ap, ℕ, zero, suc, ◌+◌, ◌-◌, ◌<◌, ◌≤◌, Bool, List, [], ◌∷◌, ◌++◌, length, take, drop, Some, None, Ok, Err, arith, true, false, cond, add-zero, take-append-drop}
+use Rattle.std.proofs.Common.{◌≡◌, refl, sym, ◌∙◌, ap, ℕ, zero, suc, ◌+◌, ◌-◌, ◌<◌, ◌≤◌, Bool, List, [], ◌∷◌, ◌++◌}
+use Rattle.std.proofs.Common.{length, take, drop, Some, None, Ok, Err, arith, true, false, cond, add-zero}
+use Rattle.std.proofs.Common.{take-append-drop}
 use Rattle.std.specs.Prelude.{Option, map, replicate, nat_le}
 use Rattle.std.specs.Simd.Lanes.{put_chunk}
 use Rattle.std.proofs.lemmas.Simd.{length-put_chunk}
@@ -17,7 +19,8 @@ use Rattle.vex_decode.specs.Laws.{SpellingIsRead}
 use Rattle.vex_emul.specs.Machine.{State}
 use Rattle.vex_emul.specs.Subset.{work_of}
 use Rattle.vex_emul.specs.Operation.{result_of}
-use Rattle.vex_emul.specs.Work.{size_of, low, fetched, stored, with_vector, and_then, combined, moved, upper_cleared, after}
+use Rattle.vex_emul.specs.Work.{size_of, low, fetched, stored, with_vector, and_then, combined, moved, upper_cleared}
+use Rattle.vex_emul.specs.Work.{after}
 use Rattle.vex_emul.specs.declared.work.Operand.{Operand}
 use Rattle.vex_emul.specs.declared.work.Operand.TheVariants.{Vector, Memory}
 use Rattle.vex_emul.specs.declared.work.Work.{Work}
@@ -28,14 +31,17 @@ use Rattle.vex_emul.specs.declared.run.HaltCause.TheVariants.{Blocked, Unsupport
 
 -- ---- one instruction, by what a decode answers
 
-pub step-blocked : (settings : List Bool) (state : State) (bytes : List ℕ) (error : DecodeError) (n : ℕ) → blocked settings bytes ≡ Some (error, n)
+pub step-blocked : (settings : List Bool) (state : State) (bytes : List ℕ) (error : DecodeError) (n : ℕ)
+    → blocked settings bytes ≡ Some (error, n)
     → step settings state bytes ≡ Err (Blocked error)
 unfolding step
 step-blocked settings state bytes error n is = ap (step_unless state bytes) is
 
 -- what a decode takes is the spelling that begins the bytes
-module _ (settings : List Bool) (state : State) (front rest : List ℕ) (m : Meaning) (spells : Spells front m) (law : SpellingIsRead) where
-  step-begun : blocked settings (front ++ rest) ≡ None → step settings state (front ++ rest) ≡ step_by state (length front) (work_of state.q m)
+module _ (settings : List Bool) (state : State) (front rest : List ℕ) (m : Meaning) (spells : Spells front m)
+    (law : SpellingIsRead) where
+  step-begun : blocked settings (front ++ rest) ≡ None
+      → step settings state (front ++ rest) ≡ step_by state (length front) (work_of state.q m)
   unfolding step
   step-begun begun =
       let row = spells.row in
@@ -55,7 +61,8 @@ module _ (settings : List Bool) (state : State) (front rest : List ℕ) (m : Mea
       ap (refused settings (front ++ rest)) (law front rest m spells)
       ∙ ap (λ b. cond b None (Some (InvalidOpcode, taken (front ++ rest) rest))) (sym same ∙ permitted)
 
-  pub step-spelled : permits settings m.evex m.opcode ≡ true → step settings state (front ++ rest) ≡ step_by state (length front) (work_of state.q m)
+  pub step-spelled : permits settings m.evex m.opcode ≡ true
+      → step settings state (front ++ rest) ≡ step_by state (length front) (work_of state.q m)
   step-spelled permitted = step-begun (begun permitted)
 
 pub step-decoded : (settings : List Bool) (state : State) (bytes : List ℕ) (decoded : Decoded) → SpellingIsRead
@@ -65,11 +72,13 @@ step-decoded settings state bytes decoded law begun within spells =
     let n = decoded.len in
     let whole = take-append-drop n bytes in
     ap (step settings state) (sym whole)
-    ∙ step-begun settings state (take n bytes) (drop n bytes) decoded.meaning spells law (ap (blocked settings) whole ∙ begun)
+    ∙ step-begun settings state (take n bytes) (drop n bytes) decoded.meaning spells law
+    (ap (blocked settings) whole ∙ begun)
     ∙ ap (λ k. step_by state k (work_of state.q decoded.meaning)) (length-take-le n bytes within)
 
 -- what follows from that, by what the instruction does
-module _ (settings : List Bool) (state : State) (bytes : List ℕ) (decoded : Decoded) (is : step settings state bytes ≡ step_by state decoded.len (work_of state.q decoded.meaning)) where
+module _ (settings : List Bool) (state : State) (bytes : List ℕ) (decoded : Decoded)
+    (is : step settings state bytes ≡ step_by state decoded.len (work_of state.q decoded.meaning)) where
   pub step-unsupported : work_of state.q decoded.meaning ≡ None → step settings state bytes ≡ Err Unsupported
   step-unsupported none = is ∙ ap (step_by state decoded.len) none
 
@@ -82,13 +91,15 @@ module _ (settings : List Bool) (state : State) (bytes : List ℕ) (decoded : De
 
 -- ---- the memory keeps its length
 
-stored-room : (s next : State) (n : ℕ) (dest : Operand) (bytes : List ℕ) → stored s n dest bytes ≡ Some next → length next.memory ≡ length s.memory
+stored-room : (s next : State) (n : ℕ) (dest : Operand) (bytes : List ℕ) → stored s n dest bytes ≡ Some next
+    → length next.memory ≡ length s.memory
 unfolding stored
 stored-room s next n (Vector i) bytes h =
     let is : with_vector s n i bytes ≡ next = cc in ap (λ (t : State). length t.memory) (sym is)
 stored-room s next n (Memory at) bytes h = by (nat_le (at + n) (length s.memory)) h
   where
-    by : (b : Bool) → cond b (Some (record s { memory = put_chunk at s.memory bytes })) None ≡ Some next → length next.memory ≡ length s.memory
+    by : (b : Bool) → cond b (Some (record s { memory = put_chunk at s.memory bytes })) None ≡ Some next
+        → length next.memory ≡ length s.memory
     by true h =
         let is : record s { memory = put_chunk at s.memory bytes } ≡ next = cc in
         ap (λ (t : State). length t.memory) (sym is) ∙ length-put_chunk at s.memory bytes
@@ -98,20 +109,27 @@ pub after-room : (s next : State) (work : Work) → after s work ≡ Some next �
 unfolding combined moved
 after-room s next (Combine operation wide dest first second) h = by (fetched s (size_of wide) second) h
   where
-    by : (o : Option (List ℕ)) → and_then o (λ e. Some (with_vector s (size_of wide) dest (result_of operation (size_of wide) (low s (size_of wide) first) e))) ≡ Some next → length next.memory ≡ length s.memory
+    by : (o : Option (List ℕ)) → and_then o
+        (λ e. Some (with_vector s (size_of wide) dest
+        (result_of operation (size_of wide) (low s (size_of wide) first) e))) ≡ Some next
+        → length next.memory ≡ length s.memory
     by None h = cc
     by (Some e) h =
-        let is : with_vector s (size_of wide) dest (result_of operation (size_of wide) (low s (size_of wide) first) e) ≡ next = cc in
+        let is : with_vector s (size_of wide) dest (result_of operation (size_of wide) (low s (size_of wide) first) e)
+        ≡ next = cc in
         ap (λ (t : State). length t.memory) (sym is)
 after-room s next (Move wide dest source) h = by (fetched s (size_of wide) source) h
   where
-    by : (o : Option (List ℕ)) → and_then o (λ bytes. stored s (size_of wide) dest bytes) ≡ Some next → length next.memory ≡ length s.memory
+    by : (o : Option (List ℕ)) → and_then o (λ bytes. stored s (size_of wide) dest bytes) ≡ Some next
+        → length next.memory ≡ length s.memory
     by None h = cc
     by (Some bytes) h = stored-room s next (size_of wide) dest bytes h
 after-room s next ZeroUpper h =
-    let is : record s { vectors = map upper_cleared s.vectors } ≡ next = cc in ap (λ (t : State). length t.memory) (sym is)
+    let is : record s { vectors = map upper_cleared s.vectors } ≡ next =
+    cc in ap (λ (t : State). length t.memory) (sym is)
 after-room s next ZeroAll h =
-    let is : record s { vectors = replicate 16 (replicate 32 0) } ≡ next = cc in ap (λ (t : State). length t.memory) (sym is)
+    let is : record s { vectors = replicate 16 (replicate 32 0) } ≡ next =
+    cc in ap (λ (t : State). length t.memory) (sym is)
 
 -- ---- one instruction after another
 
@@ -119,14 +137,17 @@ after-room s next ZeroAll h =
 from-skip : (settings : List Bool) (k : ℕ) (state : State) (place count : ℕ) (bytes : List ℕ) → k ≤ length bytes
     → ran_from settings k state place count bytes ≡ ran_from settings 0 state (place + k) count (drop k bytes)
 unfolding ran_from
-from-skip settings zero state place count bytes within = ap (λ p. ran_from settings 0 state p count bytes) (sym (add-zero place))
+from-skip settings zero state place count bytes within =
+    ap (λ p. ran_from settings 0 state p count bytes) (sym (add-zero place))
 from-skip settings (suc k) state place count [] within = absurd (omega arith)
 from-skip settings (suc k) state place count (b ∷ bs) within =
     let at : place + 1 + k ≡ place + suc k = omega arith in
-    from-skip settings k state (place + 1) count bs (omega arith) ∙ ap (λ p. ran_from settings 0 state p count (drop k bs)) at
+    from-skip settings k state (place + 1) count bs (omega arith)
+    ∙ ap (λ p. ran_from settings 0 state p count (drop k bs)) at
 
 -- an instruction that runs, and the run of what follows it
-from-step : (settings : List Bool) (state next : State) (place count len : ℕ) (bytes : List ℕ) → step settings state bytes ≡ Ok (next, len)
+from-step : (settings : List Bool) (state next : State) (place count len : ℕ) (bytes : List ℕ)
+    → step settings state bytes ≡ Ok (next, len)
     → 1 ≤ len → len ≤ length bytes
     → ran_from settings 0 state place count bytes ≡ ran_from settings 0 next (place + len) (count + 1) (drop len bytes)
 unfolding ran_from
@@ -140,19 +161,22 @@ from-step settings state next place count len (b ∷ bs) is some within =
     ∙ ap (λ k. ran_from settings 0 next (place + len) (count + 1) (drop k (b ∷ bs))) more
 
 -- an instruction that halts
-from-halt : (settings : List Bool) (state : State) (place count : ℕ) (bytes : List ℕ) (cause : HaltCause) → step settings state bytes ≡ Err cause
-    → 0 < length bytes → ran_from settings 0 state place count bytes ≡ (state, Err (record { place = place; count = count; cause = cause }))
+from-halt : (settings : List Bool) (state : State) (place count : ℕ) (bytes : List ℕ) (cause : HaltCause)
+    → step settings state bytes ≡ Err cause
+    → 0 < length bytes → ran_from settings 0 state place count bytes
+    ≡ (state, Err (record { place = place; count = count; cause = cause }))
 unfolding ran_from
 from-halt settings state place count [] cause is some = absurd (omega arith)
 from-halt settings state place count (b ∷ bs) cause is some =
     ap (ran_by state place count (λ next len. ran_from settings (len - 1) next (place + 1) (count + 1) bs)) is
 
 -- the whole run is the run from this place on
-pub record Running (settings : List Bool) (start : State) (code : List ℕ) (state : State) (place count : ℕ) : Type 0 where
-  pub within : place ≤ length code
-  pub counted : count ≤ place
-  pub room : length state.memory ≡ length start.memory
-  pub same : ran settings start code ≡ ran_from settings 0 state place count (drop place code)
+pub record Running (settings : List Bool) (start : State) (code : List ℕ) (state : State) (place count : ℕ) : Type 0
+  where
+    pub within : place ≤ length code
+    pub counted : count ≤ place
+    pub room : length state.memory ≡ length start.memory
+    pub same : ran settings start code ≡ ran_from settings 0 state place count (drop place code)
 
 module _ (settings : List Bool) (start : State) (code : List ℕ) where
   pub Running-first : Running settings start code start 0 0
@@ -177,7 +201,8 @@ module _ (settings : List Bool) (start : State) (code : List ℕ) where
     pub Running-halt : (cause : HaltCause) → place < length code → step settings state (drop place code) ≡ Err cause
         → ran settings start code ≡ (state, Err (record { place = place; count = count; cause = cause }))
     Running-halt cause more is =
-        so_far.same ∙ from-halt settings state place count (drop place code) cause is (omega (arith, more, length-drop place code))
+        so_far.same ∙ from-halt settings state place count (drop place code) cause is
+        (omega (arith, more, length-drop place code))
 
     pub Running-end : length code ≤ place → ran settings start code ≡ (state, Ok count)
     unfolding ran_from

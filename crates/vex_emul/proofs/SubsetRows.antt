@@ -1,5 +1,6 @@
 -- The rows of the eighteen opcodes have the slots that their kinds ask for: a test that is computed over all rows.
-use Rattle.std.specs.Prelude.{◌≡◌, refl, ◌↔◌, ℕ, ◌+◌, ◌*◌, ◌<◌, Bool, true, false, not, ◌&&◌, List, [], filter, map, Option, Some, None, IsSome, is_some}
+use Rattle.std.specs.Prelude.{◌≡◌, refl, ◌↔◌, ℕ, ◌+◌, ◌*◌, ◌<◌, Bool, true, false, not, ◌&&◌, List, [], filter, map}
+use Rattle.std.specs.Prelude.{Option, Some, None, IsSome, is_some}
 use Rattle.std.specs.List.{list_any}
 use Rattle.std.proofs.Common.{sym, ap, subst, ◌∙◌, arith}
 use Rattle.x86_operand.specs.declared.register.RegisterBank.{RegisterBank}
@@ -9,7 +10,8 @@ use Rattle.x86_operand.specs.Kind as operand
 use Rattle.x86_operand.specs.Meaning.{OperandMeaning}
 use Rattle.x86_operand.specs.Instruction.{operand_at}
 use Rattle.x86_address.specs.Bytes.{bit}
-use Rattle.x86_address.specs.Place.{Place, NoPlace, Direct, Based, RipBased, Scaled, Baseless, IsPlace, kind_of, target, Target}
+use Rattle.x86_address.specs.Place.{Place, NoPlace, Direct, Based, RipBased, Scaled, Baseless, IsPlace, kind_of, target}
+use Rattle.x86_address.specs.Place.{Target}
 use Rattle.vex_rows.specs.FormRows.{form_row, gathers}
 use Rattle.vex_rows.specs.Groups.{groups}
 use Rattle.vex_rows.specs.Steps.{steps}
@@ -47,7 +49,8 @@ unfoldable misfits : List Row → List Row
 misfits rows = filter (λ row. not (row_suits row)) rows
 
 none_misfit : misfits rows ≡ []
-unfolding misfits row_suits rows choices exists has_groups steps form_row gathers groups table opcode_of slots index_bank subset.kind_of
+unfolding misfits row_suits rows choices exists has_groups steps form_row gathers groups table opcode_of slots
+    index_bank subset.kind_of
 none_misfit = refl
 
 suits : (row : Row) → IsRow row → row_suits row ≡ true
@@ -74,7 +77,8 @@ bit_small true = omega arith
 bit_small false = omega arith
 
 -- what a place of such a row names is held
-place_held : (vector : Bool) (place : Place) (x b : Bool) (kind : operand.Kind) → has_e true kind ≡ true → kind_of place ≡ plain_kind kind → IsPlace place → IsHeld (target vector place x b)
+place_held : (vector : Bool) (place : Place) (x b : Bool) (kind : operand.Kind) → has_e true kind ≡ true
+    → kind_of place ≡ plain_kind kind → IsPlace place → IsHeld (target vector place x b)
 place_held vector NoPlace x b WithoutModRM has is fits = cc
 place_held vector NoPlace x b InRegister has is fits = cc
 place_held vector NoPlace x b InMemory has is fits = cc
@@ -94,7 +98,8 @@ by_kind : (q : List ℕ) (row : Row) (r v reg : ℕ) (e : Target) (imm : ℕ) �
     → IsSome (work_of q (gives row r v reg e imm)) ↔ IsOfSubset (gives row r v reg e imm)
 unfolding work_of gives mark_of
 by_kind q row r v reg e imm is_g is_v None is suit held = (
-  (λ h. absurd (no_work (sym (ap (λ k. is_some (work_of_kind q k (operand_at (operands) 0) (operand_at operands 1) (operand_at operands 2))) is) ∙ h))),
+  (λ h. absurd (no_work (sym (ap (λ k. is_some
+      (work_of_kind q k (operand_at (operands) 0) (operand_at operands 1) (operand_at operands 2))) is) ∙ h))),
   (λ h. absurd (no_work (sym (ap is_some is) ∙ h.named))),
 )
   where
@@ -121,7 +126,8 @@ by_kind q row r v reg e imm is_g is_v (Some kind) is suit held = (
     bank = q_bank (index_bank row) more.0
 
     works_in : RegisterBank → Option Kind → Bool
-    works_in bank k = is_some (work_of_kind q k (operand_at (operands bank) 0) (operand_at (operands bank) 1) (operand_at (operands bank) 2))
+    works_in bank k = is_some (work_of_kind q k (operand_at (operands bank) 0) (operand_at (operands bank) 1)
+        (operand_at (operands bank) 2))
 
     as_kind : works_in (index_bank row) (subset.kind_of (opcode_of row)) ≡ works_in (index_bank row) (Some kind)
     as_kind = ap (works_in (index_bank row)) is
@@ -129,7 +135,8 @@ by_kind q row r v reg e imm is_g is_v (Some kind) is suit held = (
     exact : Opposite (works_in (index_bank row) (Some kind)) (list_any has_rip (operands (index_bank row)))
     exact =
         subst (λ b. Opposite (works_in b (Some kind)) (list_any has_rip (operands b))) (sym bank)
-        (exactly q r v reg e imm is_g is_v kind (slots row) parts.0 (λ needs. held (subst (λ n. has_e n row.kind ≡ true) needs more.1)))
+        (exactly q r v reg e imm is_g is_v kind (slots row) parts.0
+        (λ needs. held (subst (λ n. has_e n row.kind ≡ true) needs more.1)))
 
 pub subset_is_exact : SubsetExactly
 unfolding row_suits
@@ -141,6 +148,8 @@ subset_is_exact bytes m q spells =
     let r = fits.prefix.r in
     let v = fits.prefix.v in
     subst (λ n. IsSome (work_of q n) ↔ IsOfSubset n) (sym spells.by.means)
-    (by_kind q row parts.fields.r parts.fields.v parts.reg (target (is_vector row.kind) parts.place parts.fields.x parts.fields.b) parts.imm
+    (by_kind q row parts.fields.r parts.fields.v parts.reg
+    (target (is_vector row.kind) parts.place parts.fields.x parts.fields.b) parts.imm
     (omega arith) (omega arith) (subset.kind_of (opcode_of row)) refl (suits row spells.is_row)
-    (λ has. place_held (is_vector row.kind) parts.place parts.fields.x parts.fields.b row.kind has fits.kind.plain fits.place))
+    (λ has. place_held (is_vector row.kind) parts.place parts.fields.x parts.fields.b row.kind has fits.kind.plain
+    fits.place))

@@ -1,6 +1,7 @@
--- What the operands of an instruction of the subset are, by its slots, and that it then has something that it does exactly
--- where no base is rip.
-use Rattle.std.specs.Prelude.{◌≡◌, refl, ◌↔◌, ℕ, ◌+◌, ◌<◌, ◌*◌, Bool, true, false, ◌&&◌, ◌||◌, nat_lt, cond, List, [], ◌∷◌, map, Option, Some, None, option_map, is_some}
+-- What the operands of an instruction of the subset are, by its slots, and that it then has something that it does
+-- exactly where no base is rip.
+use Rattle.std.specs.Prelude.{◌≡◌, refl, ◌↔◌, ℕ, ◌+◌, ◌<◌, ◌*◌, Bool, true, false, ◌&&◌, ◌||◌, nat_lt, cond, List, []}
+use Rattle.std.specs.Prelude.{◌∷◌, map, Option, Some, None, option_map, is_some}
 use Rattle.std.specs.List.{list_any}
 use Rattle.std.proofs.Common.{sym, ap, subst, ◌∙◌, arith}
 use Rattle.std.proofs.lemmas.Bool.Decides.{nat_tests}
@@ -14,7 +15,8 @@ use Rattle.vex_forms.specs.declared.slot.Slot.{Slot}
 use Rattle.vex_forms.specs.declared.slot.Slot.TheVariants.{G, V, E}
 use Rattle.vex_forms.specs.Gives.{slot_operand, target_operand}
 use Rattle.vex_emul.specs.Machine.{general, base_part, index_part, sum_of, place_of}
-use Rattle.vex_emul.specs.Subset.{vector_in, source_of, same_width, combine_of, combine_in, combine_on, move_of, move_to, move_from, work_of_kind, has_rip, is_rip_base}
+use Rattle.vex_emul.specs.Subset.{vector_in, source_of, same_width, combine_of, combine_in, combine_on, move_of}
+use Rattle.vex_emul.specs.Subset.{move_to, move_from, work_of_kind, has_rip, is_rip_base}
 use Rattle.vex_emul.specs.declared.operation.Operation.{Operation}
 use Rattle.vex_emul.specs.declared.work.Operand.{Operand}
 use Rattle.vex_emul.specs.declared.work.Operand.TheVariants.{Memory}
@@ -67,11 +69,14 @@ vector-there false n h = ap (λ b. cond b (Some (false, n)) None) (below-true n 
 vector-there true n h = ap (λ b. cond b (Some (true, n)) None) (below-true n h)
 
 -- an address has a place exactly where its base isn't rip
-place-exactly : (q : List ℕ) (a : PlainAddress) → is_some (place_of q (in_banks Q a)) ≡ cond (is_rip_base (base_register a.base)) false true
+place-exactly : (q : List ℕ) (a : PlainAddress)
+    → is_some (place_of q (in_banks Q a)) ≡ cond (is_rip_base (base_register a.base)) false true
 unfolding place_of general base_part index_part
 place-exactly q a = by a.base a.index
   where
-    by : (base : Base) (index : Option (ℕ × ℕ)) → is_some (sum_of (base_part q (base_register base)) (index_part q (index_register Q index)) a.disp) ≡ cond (is_rip_base (base_register base)) false true
+    by : (base : Base) (index : Option (ℕ × ℕ))
+        → is_some (sum_of (base_part q (base_register base)) (index_part q (index_register Q index)) a.disp)
+        ≡ cond (is_rip_base (base_register base)) false true
     by NoBase None = refl
     by NoBase (Some i) = refl
     by Rip None = refl
@@ -104,10 +109,13 @@ some-mapped f None = refl
 some-mapped f (Some a) = refl
 
 -- the operand of the slot E is there exactly where its base isn't rip
-source-exactly : (q : List ℕ) (wide : Bool) (e : Target) → IsHeld e → Opposite (is_some (source_of q wide (target_operand (bank_of wide) Q e))) (has_rip (target_operand (bank_of wide) Q e))
+source-exactly : (q : List ℕ) (wide : Bool) (e : Target) → IsHeld e
+    → Opposite (is_some (source_of q wide (target_operand (bank_of wide) Q e)))
+    (has_rip (target_operand (bank_of wide) Q e))
 unfolding source_of
 source-exactly q wide NoTarget held = absurd held
-source-exactly q wide (Number n) held = opposite-as _ false true (ap (λ v. is_some (same_width wide v)) (vector-there wide n held) ∙ same wide) always
+source-exactly q wide (Number n) held = opposite-as _ false true
+    (ap (λ v. is_some (same_width wide v)) (vector-there wide n held) ∙ same wide) always
   where
     same : (wide : Bool) → is_some (same_width wide (Some (wide, n))) ≡ true
     same true = refl
@@ -125,12 +133,14 @@ module _ (q : List ℕ) (r v reg : ℕ) (e : Target) (imm : ℕ) (is_g : reg + 8
 
   -- it has something that it does
   abbrev pub works : Kind → List Slot → Bool
-  works kind ss = is_some (work_of_kind q (Some kind) (operand_at (given ss) 0) (operand_at (given ss) 1) (operand_at (given ss) 2))
+  works kind ss = is_some (work_of_kind q (Some kind) (operand_at (given ss) 0) (operand_at (given ss) 1)
+      (operand_at (given ss) 2))
 
   abbrev pub Exact : Kind → List Slot → Type 0
   Exact kind ss = Opposite (works kind ss) (list_any has_rip (given ss))
 
-  combines : (operation : Operation) (wide : Bool) → IsHeld e → Exact (Combines operation) (G (bank_of wide) ∷ V (bank_of wide) ∷ E (bank_of wide) ∷ [])
+  combines : (operation : Operation) (wide : Bool) → IsHeld e
+      → Exact (Combines operation) (G (bank_of wide) ∷ V (bank_of wide) ∷ E (bank_of wide) ∷ [])
   unfolding combine_of
   combines operation wide held =
       let source = source_of q wide (target_operand (bank_of wide) Q e) in
@@ -138,12 +148,15 @@ module _ (q : List ℕ) (r v reg : ℕ) (e : Target) (imm : ℕ) (is_g : reg + 8
       let second = vector-there wide v is_v in
       or_false _ _
       (opposite-as _ _ (is_some source)
-      (ap (λ d. is_some (combine_in q operation d (vector_in (bank_of wide) v) (target_operand (bank_of wide) Q e))) first
-      ∙ ap (λ d. is_some (combine_in q operation (Some (wide, reg + 8 * r)) d (target_operand (bank_of wide) Q e))) second
+      (ap (λ d. is_some (combine_in q operation d (vector_in (bank_of wide) v) (target_operand (bank_of wide) Q e)))
+      first
+      ∙ ap (λ d. is_some (combine_in q operation (Some (wide, reg + 8 * r)) d (target_operand (bank_of wide) Q e)))
+      second
       ∙ on wide source)
       (source-exactly q wide e held))
     where
-      on : (wide : Bool) (o : Option Operand) → is_some (combine_on operation (wide, reg + 8 * r) (wide, v) o) ≡ is_some o
+      on : (wide : Bool) (o : Option Operand)
+          → is_some (combine_on operation (wide, reg + 8 * r) (wide, v) o) ≡ is_some o
       on true None = refl
       on true (Some o) = refl
       on false None = refl
@@ -159,12 +172,15 @@ module _ (q : List ℕ) (r v reg : ℕ) (e : Target) (imm : ℕ) (is_g : reg + 8
       ∙ some-mapped _ source)
       (source-exactly q wide e held))
 
-  moves-from : (wide : Bool) (e' : Target) → e ≡ e' → IsHeld e' → Opposite (is_some (move_of q (target_operand (bank_of wide) Q e') (register (record { bank = bank_of wide; num = reg + 8 * r })))) (has_rip (target_operand (bank_of wide) Q e'))
+  moves-from : (wide : Bool) (e' : Target) → e ≡ e' → IsHeld e'
+      → Opposite (is_some (move_of q (target_operand (bank_of wide) Q e')
+      (register (record { bank = bank_of wide; num = reg + 8 * r })))) (has_rip (target_operand (bank_of wide) Q e'))
   unfolding move_of source_of
   moves-from wide NoTarget is held = absurd held
   moves-from wide (Number n) is held =
       opposite-as _ false true
-      (ap (λ d. is_some (move_to q d (register (record { bank = bank_of wide; num = reg + 8 * r })))) (vector-there wide n held)
+      (ap (λ d. is_some (move_to q d (register (record { bank = bank_of wide; num = reg + 8 * r }))))
+      (vector-there wide n held)
       ∙ some-mapped _ (same_width wide (vector_in (bank_of wide) (reg + 8 * r)))
       ∙ ap (λ v. is_some (same_width wide v)) (vector-there wide (reg + 8 * r) is_g)
       ∙ same wide) always
@@ -203,15 +219,18 @@ module _ (q : List ℕ) (r v reg : ℕ) (e : Target) (imm : ℕ) (is_g : reg + 8
   banks-distinct true false e = cc
   banks-distinct false true e = cc
 
-  pub exactly : (kind : Kind) (ss : List Slot) → slots_suit kind ss ≡ true → (needs_held kind ≡ true → IsHeld e) → Exact kind ss
+  pub exactly : (kind : Kind) (ss : List Slot) → slots_suit kind ss ≡ true → (needs_held kind ≡ true → IsHeld e)
+      → Exact kind ss
   exactly ZeroesUpper [] h held = always
   exactly ZeroesAll [] h held = always
   exactly Moves (G a ∷ E b ∷ []) h held =
       let k = one_bank a b h in
-      subst (λ c. Exact Moves (G c ∷ E b ∷ [])) (sym k.1) (subst (λ c. Exact Moves (G (bank_of k.0) ∷ E c ∷ [])) (sym k.2) (moves-to k.0 (held refl)))
+      subst (λ c. Exact Moves (G c ∷ E b ∷ [])) (sym k.1)
+      (subst (λ c. Exact Moves (G (bank_of k.0) ∷ E c ∷ [])) (sym k.2) (moves-to k.0 (held refl)))
   exactly Moves (E a ∷ G b ∷ []) h held =
       let k = one_bank a b h in
-      subst (λ c. Exact Moves (E c ∷ G b ∷ [])) (sym k.1) (subst (λ c. Exact Moves (E (bank_of k.0) ∷ G c ∷ [])) (sym k.2) (moves-out k.0 (held refl)))
+      subst (λ c. Exact Moves (E c ∷ G b ∷ [])) (sym k.1)
+      (subst (λ c. Exact Moves (E (bank_of k.0) ∷ G c ∷ [])) (sym k.2) (moves-out k.0 (held refl)))
   exactly (Combines operation) (G a ∷ V b ∷ E c ∷ []) h held =
       let parts = both (are_vectors a b) (are_vectors a c) h in
       let k = one_bank a b parts.0 in

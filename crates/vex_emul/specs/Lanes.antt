@@ -1,5 +1,6 @@
 -- Operands as lists of bytes, and what an operation does with two of them lane by lane.
-use Rattle.std.specs.Prelude.{ℕ, zero, suc, List, [], ◌∷◌, ◌++◌, take, drop, ◌+◌, ◌-◌, ◌/◌, ◌%◌, ◌^◌, bit_and, if◌then◌else◌, ◌==◌}
+use Rattle.std.specs.Prelude.{ℕ, zero, suc, List, [], ◌∷◌, ◌++◌, take, drop, ◌+◌, ◌-◌, ◌/◌, ◌%◌, ◌^◌, bit_and}
+use Rattle.std.specs.Prelude.{if◌then◌else◌, ◌==◌}
 use Rattle.std.specs.Simd.Lanes.{zip2, number_l, digits_l}
 use Rattle.vex_emul.specs.declared.operation.Lane.{Lane}
 use Rattle.vex_emul.specs.declared.operation.Lane.TheVariants.{Byte, Word, Doubleword, Quadword}

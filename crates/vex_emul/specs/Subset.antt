@@ -1,9 +1,12 @@
 -- Which instructions are of the subset, and what each does.
-use Rattle.std.specs.Prelude.{◌≡◌, ℕ, Bool, true, false, List, Option, Some, None, IsSome, if◌then◌else◌, nat_lt, not, option_map}
+use Rattle.std.specs.Prelude.{◌≡◌, ℕ, Bool, true, false, List, Option, Some, None, IsSome, if◌then◌else◌, nat_lt, not}
+use Rattle.std.specs.Prelude.{option_map}
 use Rattle.std.specs.List.{list_any}
 use Rattle.x86_opcode.specs.declared.Opcode.{Opcode}
 use Rattle.x86_opcode.specs.declared.Opcode.TheVariants.{Integer}
-use Rattle.x86_opcode.specs.declared.IntegerOpcode.TheVariants.{VPADDB, VPADDW, VPADDD, VPADDQ, VPSUBB, VPSUBW, VPSUBD, VPSUBQ, VPAND, VPANDN, VPOR, VPXOR, VPCMPEQB, VPCMPEQW, VPCMPEQD, VMOVDQU, VZEROUPPER, VZEROALL}
+use Rattle.x86_opcode.specs.declared.IntegerOpcode.TheVariants.{VPADDB, VPADDW, VPADDD, VPADDQ, VPSUBB, VPSUBW, VPSUBD}
+use Rattle.x86_opcode.specs.declared.IntegerOpcode.TheVariants.{VPSUBQ, VPAND, VPANDN, VPOR, VPXOR, VPCMPEQB, VPCMPEQW}
+use Rattle.x86_opcode.specs.declared.IntegerOpcode.TheVariants.{VPCMPEQD, VMOVDQU, VZEROUPPER, VZEROALL}
 use Rattle.x86_operand.specs.Register.{Register}
 use Rattle.x86_operand.specs.declared.register.RegisterBank.{RegisterBank}
 use Rattle.x86_operand.specs.declared.register.RegisterBank.TheVariants.{X, Y, RIP}

@@ -1,5 +1,6 @@
 -- What an instruction does to a state.
-use Rattle.std.specs.Prelude.{ℕ, Bool, List, [], ◌++◌, length, take, ◌+◌, ◌-◌, ◌<◌, slice_index_or, slice_set, replicate, map, Option, Some, None, if◌then◌else◌, nat_le}
+use Rattle.std.specs.Prelude.{ℕ, Bool, List, [], ◌++◌, length, take, ◌+◌, ◌-◌, ◌<◌, slice_index_or, slice_set}
+use Rattle.std.specs.Prelude.{replicate, map, Option, Some, None, if◌then◌else◌, nat_le}
 use Rattle.std.specs.Simd.Lanes.{chunk, put_chunk}
 use Rattle.vex_emul.specs.Machine.{State}
 use Rattle.vex_emul.specs.Operation.{result_of}

@@ -7,8 +7,8 @@ ghost use Rattle.vex_emul.specs.Lanes.{by_lanes, sum_in, difference_in, equality
 use crate::operation::Lane;
 use std::simd::prelude::*;
 
-// An operation on two vectors by lanes of each size: `$bytes` on their bytes as they are, and `$wider` on their bytes as
-// wider lanes, which have the vectors' names there, with its result as bytes.
+// An operation on two vectors by lanes of each size: `$bytes` on their bytes as they are, and `$wider` on their bytes
+// as wider lanes, which have the vectors' names there, with its result as bytes.
 macro_rules! by_lanes {
     ($lane:ident, $v:ident, $e:ident, $words:ty, $doublewords:ty, $quadwords:ty, $bytes:expr, $wider:expr) => {
         match $lane {

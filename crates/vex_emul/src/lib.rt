@@ -1,5 +1,5 @@
-//! An emulator of an integer vector subset of the VEX instructions: a machine of vectors, numbers and memory, and a run of
-//! code on it.
+//! An emulator of an integer vector subset of the VEX instructions: a machine of vectors, numbers and memory, and a run
+//! of code on it.
 //!
 //! ```
 //! use vex_emul::{Machine, run_code};

@@ -5,7 +5,8 @@ ghost use Rattle.x86_operand.specs.Meaning.{operand_meaning, memory};
 ghost use Rattle.vex_emul.specs.declared.work.Operand.TheVariants.{Memory};
 ghost use Rattle.vex_emul.specs.Machine.{place_of};
 ghost use Rattle.vex_emul.specs.Work.{IsOperand, IsWork};
-ghost use Rattle.vex_emul.specs.Subset.{kind_of, vector_in, same_width, source_of, combine_of, move_of, move_to, work_of};
+ghost use Rattle.vex_emul.specs.Subset.{kind_of, vector_in, same_width, source_of, combine_of, move_of, move_to};
+ghost use Rattle.vex_emul.specs.Subset.{work_of};
 
 use crate::machine::Machine;
 use crate::operation::{Lane, Operation};

@@ -1,5 +1,7 @@
--- The parts that are put together for a meaning are those of a spelling by the row, and mean it where anything of the row does.
-use Rattle.std.specs.Prelude.{◌≡◌, refl, ◌⊎◌, ℕ, ◌+◌, ◌*◌, ◌/◌, ◌%◌, ◌<◌, ◌≤◌, Bool, true, false, ◌||◌, List, [], ◌∷◌, map, Option, Some, None, if◌then◌else◌}
+-- The parts that are put together for a meaning are those of a spelling by the row, and mean it where anything of the
+-- row does.
+use Rattle.std.specs.Prelude.{◌≡◌, refl, ◌⊎◌, ℕ, ◌+◌, ◌*◌, ◌/◌, ◌%◌, ◌<◌, ◌≤◌, Bool, true, false, ◌||◌, List, [], ◌∷◌}
+use Rattle.std.specs.Prelude.{map, Option, Some, None, if◌then◌else◌}
 use Rattle.std.specs.Int.{cast_signed, cast_unsigned, w8}
 use Rattle.std.specs.List.{list_any}
 use Rattle.std.proofs.Common.{arith, ap, ap₂, sym, ◌∙◌, inl, inr, subst}
@@ -26,7 +28,8 @@ pub record First (is : Slot → Bool) (f : Slot → OperandMeaning) (slots : Lis
   pub passes : is slot ≡ true
   pub operand : operand_of_kind is slots (map f slots) ≡ f slot
 
-first_operand : (is : Slot → Bool) (f : Slot → OperandMeaning) (slots : List Slot) (slot : Slot) → Among slot slots → is slot ≡ true → First is f slots
+first_operand : (is : Slot → Bool) (f : Slot → OperandMeaning) (slots : List Slot) (slot : Slot) → Among slot slots
+    → is slot ≡ true → First is f slots
 first_operand is f [] slot m h = absurd m
 first_operand is f (s ∷ slots) slot m h = by (is s) refl m (λ k. first_operand is f slots slot k h) where
   by : (b : Bool) → is s ≡ b → Among slot (s ∷ slots) → (Among slot slots → First is f slots) → First is f (s ∷ slots)
@@ -35,20 +38,30 @@ first_operand is f (s ∷ slots) slot m h = by (is s) refl m (λ k. first_operan
   by false e (inr k) next = let later = next k in record { slot = later.slot; among = inr later.among; passes = later.passes; operand = rw e later.operand }
 
 -- there is such a slot, or no operand
-pub first_or_none : (is : Slot → Bool) (f : Slot → OperandMeaning) (slots : List Slot) → First is f slots ⊎ (operand_of_kind is slots (map f slots) ≡ nothing)
+pub first_or_none : (is : Slot → Bool) (f : Slot → OperandMeaning) (slots : List Slot)
+    → First is f slots ⊎ (operand_of_kind is slots (map f slots) ≡ nothing)
 first_or_none is f [] = inr refl
 first_or_none is f (s ∷ slots) = by (is s) refl (first_or_none is f slots) where
-  by : (b : Bool) → is s ≡ b → First is f slots ⊎ (operand_of_kind is slots (map f slots) ≡ nothing) → First is f (s ∷ slots) ⊎ (operand_of_kind is (s ∷ slots) (map f (s ∷ slots)) ≡ nothing)
+  by : (b : Bool) → is s ≡ b → First is f slots ⊎ (operand_of_kind is slots (map f slots) ≡ nothing)
+      → First is f (s ∷ slots) ⊎ (operand_of_kind is (s ∷ slots) (map f (s ∷ slots)) ≡ nothing)
   by true e next = inl (record { slot = s; among = inl refl; passes = e; operand = rw e refl })
-  by false e (inl later) = inl (record { slot = later.slot; among = inr later.among; passes = later.passes; operand = rw e later.operand })
+  by false e (inl later) = inl (record {
+    slot = later.slot;
+    among = inr later.among;
+    passes = later.passes;
+    operand =
+        rw e later.operand;
+  })
   by false e (inr none) = inr (rw e none)
 
 -- no operand where no slot passes
-pub no_operand : (is : Slot → Bool) (slots : List Slot) (operands : List OperandMeaning) → list_any is slots ≡ false → operand_of_kind is slots operands ≡ nothing
+pub no_operand : (is : Slot → Bool) (slots : List Slot) (operands : List OperandMeaning) → list_any is slots ≡ false
+    → operand_of_kind is slots operands ≡ nothing
 no_operand is [] operands h = refl
 no_operand is (s ∷ slots) [] h = refl
 no_operand is (s ∷ slots) (operand ∷ operands) h = by (is s) (list_any is slots) h (no_operand is slots operands) where
-  by : (b c : Bool) → (b || c) ≡ false → (c ≡ false → operand_of_kind is slots operands ≡ nothing) → (if b then operand else operand_of_kind is slots operands) ≡ nothing
+  by : (b c : Bool) → (b || c) ≡ false → (c ≡ false → operand_of_kind is slots operands ≡ nothing)
+      → (if b then operand else operand_of_kind is slots operands) ≡ nothing
   by true c h next = cc
   by false c h next = next h
 
@@ -73,14 +86,16 @@ module _ (index_bank : RegisterBank) (r v reg : ℕ) (e : Target) (imm : ℕ) wh
   v_given I8 h = cc
   v_given (R4 bank) h = cc
 
-  e_operand : (bank : RegisterBank) (kind : Kind) (e : Target) → kind_of_target e ≡ plain_kind kind → target_of kind (target_operand bank index_bank e) ≡ e
+  e_operand : (bank : RegisterBank) (kind : Kind) (e : Target) → kind_of_target e ≡ plain_kind kind
+      → target_of kind (target_operand bank index_bank e) ≡ e
   e_operand bank WithoutModRM NoTarget h = refl
   e_operand bank InRegister (Number n) h = refl
   e_operand bank InMemory (At a) h = ap At (plain-in_banks index_bank a)
   e_operand bank VectorIndexed (At a) h = ap At (plain-in_banks index_bank a)
   e_operand bank _ _ h = cc
 
-  pub e_given : (kind : Kind) (slot : Slot) → names_e slot ≡ true → kind_of_target e ≡ plain_kind kind → target_of kind (slot_operand index_bank r v reg e imm slot) ≡ e
+  pub e_given : (kind : Kind) (slot : Slot) → names_e slot ≡ true → kind_of_target e ≡ plain_kind kind
+      → target_of kind (slot_operand index_bank r v reg e imm slot) ≡ e
   e_given kind (E bank) h k = e_operand bank kind e k
   e_given kind (G bank) h k = cc
   e_given kind (V bank) h k = cc
@@ -95,7 +110,8 @@ counted slot (s ∷ slots) (inl e) h = let t : names_imm s ≡ true = ap names_i
 counted slot (s ∷ slots) (inr m) h = omega (arith, counted slot slots m h)
 
 -- at most one slot reads the immediate byte
-only_immediate : (slots : List Slot) (a b : Slot) → immediates slots ≤ 1 → Among a slots → Among b slots → names_imm a ≡ true → names_imm b ≡ true → a ≡ b
+only_immediate : (slots : List Slot) (a b : Slot) → immediates slots ≤ 1 → Among a slots → Among b slots
+    → names_imm a ≡ true → names_imm b ≡ true → a ≡ b
 only_immediate [] a b few m n h k = absurd m
 only_immediate (s ∷ slots) a b few (inl e) (inl f) h k = e ∙ sym f
 only_immediate (s ∷ slots) a b few (inl e) (inr n) h k =
@@ -115,17 +131,21 @@ fourth_again : (imm : ℕ) → imm < 256 → ((16 * (imm / 16)) % 256) / 16 ≡ 
 fourth_again imm h = omega arith
 
 -- an immediate slot says the same of the byte that is made for it
-imm_given : (index_bank : RegisterBank) (r v reg : ℕ) (e e' : Target) (r' v' reg' imm : ℕ) (slot : Slot) → imm < 256 → names_imm slot ≡ true →
-    slot_operand index_bank r' v' reg' e' (imm_of (slot_operand index_bank r v reg e imm slot)) slot ≡ slot_operand index_bank r v reg e imm slot
+imm_given : (index_bank : RegisterBank) (r v reg : ℕ) (e e' : Target) (r' v' reg' imm : ℕ) (slot : Slot) → imm < 256
+    → names_imm slot ≡ true →
+    slot_operand index_bank r' v' reg' e' (imm_of (slot_operand index_bank r v reg e imm slot)) slot
+    ≡ slot_operand index_bank r v reg e imm slot
 imm_given index_bank r v reg e e' r' v' reg' imm U8 h k = ap unsigned (omega arith)
 imm_given index_bank r v reg e e' r' v' reg' imm I8 h k = ap (λ n. signed (cast_signed w8 n)) (signed_again imm h)
-imm_given index_bank r v reg e e' r' v' reg' imm (R4 bank) h k = ap (λ n. register (record { bank = bank; num = n })) (fourth_again imm h)
+imm_given index_bank r v reg e e' r' v' reg' imm (R4 bank) h k =
+    ap (λ n. register (record { bank = bank; num = n })) (fourth_again imm h)
 imm_given index_bank r v reg e e' r' v' reg' imm (G bank) h k = cc
 imm_given index_bank r v reg e e' r' v' reg' imm (V bank) h k = cc
 imm_given index_bank r v reg e e' r' v' reg' imm (E bank) h k = cc
 
 -- the operand of G, from the field reg and the bit R that its number demands
-g_number : (group : Option ℕ) (reg r g : ℕ) → reg < 8 → r ≤ 1 → g ≡ reg + 8 * r → FitsGroup group reg → reg_for group g + 8 * ((g / 8) % 2) ≡ reg + 8 * r
+g_number : (group : Option ℕ) (reg r g : ℕ) → reg < 8 → r ≤ 1 → g ≡ reg + 8 * r → FitsGroup group reg
+    → reg_for group g + 8 * ((g / 8) % 2) ≡ reg + 8 * r
 g_number None reg r g hreg hr e fits = omega arith
 g_number (Some group) reg r g hreg hr e fits = omega (arith, fits)
 
@@ -134,16 +154,21 @@ map_same f g [] h = refl
 map_same f g (x ∷ xs) h = ap₂ ◌∷◌ (h x (inl refl)) (map_same f g xs (λ y m. h y (inr m)))
 
 -- each slot says the same of the parts that are put together as of the parts that were read
-module _ (index_bank : RegisterBank) (slots : List Slot) (kind : Kind) (group : Option ℕ) (r v reg : ℕ) (place : Place) (x b : Bool) (imm : ℕ)
+module _ (index_bank : RegisterBank) (slots : List Slot) (kind : Kind) (group : Option ℕ) (r v reg : ℕ) (place : Place)
+    (x b : Bool) (imm : ℕ)
     (few : immediates slots ≤ 1) (r_fits : r ≤ 1) (v_fits : v ≤ 15) (reg_fits : reg < 8) (imm_fits : imm < 256)
     (is_place : IsPlace place) (is_kind : IsOfKind kind place) (in_group : FitsGroup group reg) where
   immediate_again : (e' : Target) (r' v' reg' : ℕ) (slot : Slot) → Among slot slots → names_imm slot ≡ true →
-      slot_operand index_bank r' v' reg' e' (imm_of (operand_of_kind names_imm slots (map (slot_operand index_bank r v reg (target (is_vector kind) place x b) imm) slots))) slot
+      slot_operand index_bank r' v' reg' e' (imm_of
+      (operand_of_kind names_imm slots (map
+      (slot_operand index_bank r v reg (target (is_vector kind) place x b) imm) slots))) slot
       ≡ slot_operand index_bank r v reg (target (is_vector kind) place x b) imm slot
   immediate_again e' r' v' reg' slot m h =
-      let first = first_operand names_imm (slot_operand index_bank r v reg (target (is_vector kind) place x b) imm) slots slot m h in
+      let first = first_operand names_imm (slot_operand index_bank r v reg (target (is_vector kind) place x b) imm)
+      slots slot m h in
       let same = only_immediate slots first.slot slot few first.among m first.passes h in
-      let imm_is = ap imm_of first.operand ∙ ap (λ s. imm_of (slot_operand index_bank r v reg (target (is_vector kind) place x b) imm s)) same in
+      let imm_is = ap imm_of first.operand ∙ ap
+      (λ s. imm_of (slot_operand index_bank r v reg (target (is_vector kind) place x b) imm s)) same in
       ap (λ n. slot_operand index_bank r' v' reg' e' n slot) imm_is
       ∙ imm_given index_bank r v reg (target (is_vector kind) place x b) e' r' v' reg' imm slot imm_fits h
 
@@ -151,19 +176,28 @@ module _ (index_bank : RegisterBank) (slots : List Slot) (kind : Kind) (group : 
       let operands = map (slot_operand index_bank r v reg (target (is_vector kind) place x b) imm) slots in
       let g = number_of (operand_of_kind names_g slots operands) in
       let e = target_of kind (operand_of_kind names_e slots operands) in
-      slot_operand index_bank ((g / 8) % 2) (number_of (operand_of_kind names_v slots operands) % 16) (reg_for group g) (target (is_vector kind) (shortest e) (x_of e) (b_of e)) (imm_of (operand_of_kind names_imm slots operands)) slot
+      slot_operand index_bank ((g / 8) % 2) (number_of (operand_of_kind names_v slots operands) % 16) (reg_for group g)
+      (target (is_vector kind) (shortest e) (x_of e) (b_of e)) (imm_of (operand_of_kind names_imm slots operands))
+      slot
       ≡ slot_operand index_bank r v reg (target (is_vector kind) place x b) imm slot
   slot_again (G bank) m =
-      let first = first_operand names_g (slot_operand index_bank r v reg (target (is_vector kind) place x b) imm) slots (G bank) m refl in
-      let g_is = ap number_of first.operand ∙ g_given index_bank r v reg (target (is_vector kind) place x b) imm first.slot first.passes in
+      let first = first_operand names_g (slot_operand index_bank r v reg (target (is_vector kind) place x b) imm) slots
+      (G bank) m refl in
+      let g_is = ap number_of first.operand ∙ g_given index_bank r v reg (target (is_vector kind) place x b) imm
+      first.slot first.passes in
       ap (λ n. register (record { bank = bank; num = n })) (g_number group reg r _ reg_fits r_fits g_is in_group)
   slot_again (V bank) m =
-      let first = first_operand names_v (slot_operand index_bank r v reg (target (is_vector kind) place x b) imm) slots (V bank) m refl in
-      let v_is = ap number_of first.operand ∙ v_given index_bank r v reg (target (is_vector kind) place x b) imm first.slot first.passes in
+      let first = first_operand names_v (slot_operand index_bank r v reg (target (is_vector kind) place x b) imm) slots
+      (V bank) m refl in
+      let v_is = ap number_of first.operand ∙ v_given index_bank r v reg (target (is_vector kind) place x b) imm
+      first.slot first.passes in
       ap (λ n. register (record { bank = bank; num = n })) (ap (λ n. n % 16) v_is ∙ omega arith)
   slot_again (E bank) m =
-      let first = first_operand names_e (slot_operand index_bank r v reg (target (is_vector kind) place x b) imm) slots (E bank) m refl in
-      let e_is = ap (target_of kind) first.operand ∙ e_given index_bank r v reg (target (is_vector kind) place x b) imm kind first.slot first.passes (kind_of_target-target (is_vector kind) place x b ∙ is_kind.plain) in
+      let first = first_operand names_e (slot_operand index_bank r v reg (target (is_vector kind) place x b) imm) slots
+      (E bank) m refl in
+      let e_is = ap (target_of kind) first.operand
+      ∙ e_given index_bank r v reg (target (is_vector kind) place x b) imm kind first.slot first.passes
+      (kind_of_target-target (is_vector kind) place x b ∙ is_kind.plain) in
       ap (target_operand bank index_bank) (ap (λ e. target (is_vector kind) (shortest e) (x_of e) (b_of e)) e_is
       ∙ names-shortest (is_vector kind) _ (IsSpellable-target (is_vector kind) place x b is_place is_kind.sib))
   slot_again U8 m = immediate_again NoTarget 0 0 0 U8 m refl

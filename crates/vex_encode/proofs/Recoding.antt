@@ -1,5 +1,6 @@
 -- What a decode and the canonical bytes say together.
-use Rattle.std.specs.Prelude.{◌≡◌, refl, ◌↔◌, ◌≤◌, ℕ, length, Bool, true, List, take, Some, None, Result, Ok, Err, IsOk, IfOk, IfErr}
+use Rattle.std.specs.Prelude.{◌≡◌, refl, ◌↔◌, ◌≤◌, ℕ, length, Bool, true, List, take, Some, None, Result, Ok, Err, IsOk}
+use Rattle.std.specs.Prelude.{IfOk, IfErr}
 use Rattle.x86_operand.specs.declared.error.DecodeError.{DecodeError}
 use Rattle.x86_operand.specs.Meaning.{Meaning, Decoded}
 use Rattle.x86_permit.specs.Permission.{permits}
@@ -14,7 +15,10 @@ use Rattle.vex_encode.proofs.Canon.{canon_spells, canon_least}
 pub canonical_there : (bytes : List ℕ) (m : Meaning) → Spells bytes m → canon m ≡ None → ⊥
 canonical_there bytes m spells none = let least = canon_least m bytes spells in cc (least.1)
 
-pub recodes : CanonicalNotBlocked → (settings : List Bool) (bytes : List ℕ) (decoded : Decoded) (spelling : List ℕ) → blocked settings bytes ≡ None → decoded.len ≤ length bytes → Spells (take decoded.len bytes) decoded.meaning → permits settings decoded.meaning.evex decoded.meaning.opcode ≡ true → canon decoded.meaning ≡ Some spelling → RecodesAs settings bytes decoded spelling
+pub recodes : CanonicalNotBlocked → (settings : List Bool) (bytes : List ℕ) (decoded : Decoded) (spelling : List ℕ)
+    → blocked settings bytes ≡ None → decoded.len ≤ length bytes → Spells (take decoded.len bytes) decoded.meaning
+    → permits settings decoded.meaning.evex decoded.meaning.opcode ≡ true → canon decoded.meaning ≡ Some spelling
+    → RecodesAs settings bytes decoded spelling
 recodes not_blocked settings bytes decoded spelling begun within spelled permitted canonical =
     let spells = canon_spells decoded.meaning spelling canonical in
     record {
@@ -28,14 +32,18 @@ recodes not_blocked settings bytes decoded spelling begun within spelled permitt
     }
 
 module _ (settings : List Bool) (bytes : List ℕ) where
-  pub recodes_begun : (result : Result (Decoded × List ℕ) DecodeError) → Recodes settings bytes result → IsOk result ↔ (blocked settings bytes ≡ None)
+  pub recodes_begun : (result : Result (Decoded × List ℕ) DecodeError) → Recodes settings bytes result
+      → IsOk result ↔ (blocked settings bytes ≡ None)
   recodes_begun (Ok r) h = ((λ _. h.begun), (λ _. refl))
   recodes_begun (Err e) h = ((λ k. cc), (λ k. cc (h.1)))
 
-  pub recodes_ok : (P : Decoded × List ℕ → Type 0) (result : Result (Decoded × List ℕ) DecodeError) → Recodes settings bytes result → ((r : Decoded × List ℕ) → RecodesAs settings bytes r.0 r.1 → P r) → IfOk result P
+  pub recodes_ok : (P : Decoded × List ℕ → Type 0) (result : Result (Decoded × List ℕ) DecodeError)
+      → Recodes settings bytes result → ((r : Decoded × List ℕ) → RecodesAs settings bytes r.0 r.1 → P r)
+      → IfOk result P
   recodes_ok P (Ok r) h from = from r h
   recodes_ok P (Err e) h from = tt
 
-  pub recodes_err : (result : Result (Decoded × List ℕ) DecodeError) → Recodes settings bytes result → IfErr result (λ error. (n : ℕ) × (blocked settings bytes ≡ Some (error, n)))
+  pub recodes_err : (result : Result (Decoded × List ℕ) DecodeError) → Recodes settings bytes result
+      → IfErr result (λ error. (n : ℕ) × (blocked settings bytes ≡ Some (error, n)))
   recodes_err (Ok r) h = tt
   recodes_err (Err e) h = h

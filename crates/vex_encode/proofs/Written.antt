@@ -1,5 +1,6 @@
 -- What is put together and written for a row that can give a meaning is its standard spelling.
-use Rattle.std.specs.Prelude.{◌≡◌, refl, ℕ, ◌/◌, ◌%◌, ◌<◌, ◌++◌, ◌∷◌, Bool, true, false, ◌==◌, Option, Some, None, unwrap_or, if◌then◌else◌}
+use Rattle.std.specs.Prelude.{◌≡◌, refl, ℕ, ◌/◌, ◌%◌, ◌<◌, ◌++◌, ◌∷◌, Bool, true, false, ◌==◌, Option, Some, None}
+use Rattle.std.specs.Prelude.{unwrap_or, if◌then◌else◌}
 use Rattle.std.specs.Option.{ForSome}
 use Rattle.std.proofs.Common.{zero, suc, arith, ap, ap₂, sym, ◌∙◌, subst}
 use Rattle.x86_operand.specs.Kind.{Kind, WithoutModRM, InRegister, memory_kind}
@@ -50,7 +51,9 @@ reg_added reg (Scaled k i j d) = ap (λ n. n ∷ tail_of (Scaled k i j d)) (omeg
 reg_added reg (Baseless k i n) = ap (λ m. m ∷ tail_of (Baseless k i n)) (omega arith)
 
 -- a row in memory has a ModRM byte
-memory_modrm : (vector modrm memory : Bool) → is_memory (if modrm then (if memory then memory_kind vector else InRegister) else WithoutModRM) ≡ true → modrm ≡ true
+memory_modrm : (vector modrm memory : Bool)
+    → is_memory (if modrm then (if memory then memory_kind vector else InRegister) else WithoutModRM) ≡ true
+    → modrm ≡ true
 memory_modrm vector true memory h = refl
 memory_modrm vector false memory h = cc
 
@@ -64,20 +67,36 @@ module _ (choice : RowChoice) (layout : RowLayout) (is : IsLayout (row_chosen ch
   layout_group small = λ n e. group_small (has_groups choice.entry.form) choice.group n small (sym is.group ∙ e)
 
   -- the operand E is an address that fits
-  pub layout_placed : (kind : Kind) (m : Meaning) → (row_chosen choice).kind ≡ kind → CanGive (row_chosen choice) m → IsPlaced kind layout.index_bank (operand_at_e layout m)
+  pub layout_placed : (kind : Kind) (m : Meaning) → (row_chosen choice).kind ≡ kind → CanGive (row_chosen choice) m
+      → IsPlaced kind layout.index_bank (operand_at_e layout m)
   unfolding slots
   layout_placed kind m k gives =
       let row = row_chosen choice in
-      let fits = placed row.kind _ (slots row) m.operands gives.operands (λ memory. with_e row.entry.form row (memory_modrm (gathers choice.entry.form) (steps choice.entry.form).modrm choice.memory memory)) in
+      let fits = placed row.kind _ (slots row) m.operands gives.operands
+      (λ memory. with_e row.entry.form row
+      (memory_modrm (gathers choice.entry.form) (steps choice.entry.form).modrm choice.memory memory)) in
       subst (λ kind. IsPlaced kind layout.index_bank (operand_at_e layout m)) k
       (rw (is.index_bank, is.slots) fits)
 
-  module _ (kind : Kind) (m : Meaning) (numbers : OperandFields) (place : AddressBytes) (k : (row_chosen choice).kind ≡ kind) (has : HasNumbers kind layout m numbers)
-      (bytes : place.bytes.items ≡ place_bytes 0 (shortest (target_seen numbers.e))) (x : place.x ≡ x_of (target_seen numbers.e)) (b : place.b ≡ b_of (target_seen numbers.e)) where
+  module _ (kind : Kind) (m : Meaning) (numbers : OperandFields) (place : AddressBytes)
+      (k : (row_chosen choice).kind ≡ kind) (has : HasNumbers kind layout m numbers)
+      (bytes : place.bytes.items ≡ place_bytes 0 (shortest (target_seen numbers.e)))
+      (x : place.x ≡ x_of (target_seen numbers.e)) (b : place.b ≡ b_of (target_seen numbers.e)) where
     abbrev pub prefix : Prefix
-    prefix = record { map = choice.entry.map; pp = choice.entry.pp; w = choice.w; l = choice.l; r = numbers.r; x = place.x; b = place.b; vvvv = numbers.vvvv }
+    prefix = record {
+      map = choice.entry.map;
+      pp = choice.entry.pp;
+      w = choice.w;
+      l = choice.l;
+      r = numbers.r;
+      x =
+          place.x;
+      b = place.b;
+      vvvv = numbers.vvvv;
+    }
 
-    asked : target_of kind (operand_of_kind names_e layout.slots.items m.operands) ≡ target_of (row_chosen choice).kind (operand_of_kind names_e (slots (row_chosen choice)) m.operands)
+    asked : target_of kind (operand_of_kind names_e layout.slots.items m.operands)
+        ≡ target_of (row_chosen choice).kind (operand_of_kind names_e (slots (row_chosen choice)) m.operands)
     asked = ap₂ (λ kind slots. target_of kind (operand_of_kind names_e slots m.operands)) (sym k) is.slots
 
     fields_made : fields_of prefix ≡ (candidate (row_chosen choice) m).fields
@@ -85,16 +104,31 @@ module _ (choice : RowChoice) (layout : RowLayout) (is : IsLayout (row_chosen ch
     fields_made =
         let g = number_of (operand_of_kind names_g layout.slots.items m.operands) in
         let r : bit numbers.r ≡ (number_of (operand_of_kind names_g (slots (row_chosen choice)) m.operands) / 8) % 2 =
-        ap bit has.r ∙ bit_again ((g / 8) % 2) (omega arith) ∙ ap (λ s. (number_of (operand_of_kind names_g s m.operands) / 8) % 2) is.slots in
-        let v : numbers.vvvv ≡ number_of (operand_of_kind names_v (slots (row_chosen choice)) m.operands) % 16 = has.vvvv ∙ ap (λ s. number_of (operand_of_kind names_v s m.operands) % 16) is.slots in
-        let x_is : place.x ≡ x_of (target_of (row_chosen choice).kind (operand_of_kind names_e (slots (row_chosen choice)) m.operands)) = x ∙ has.e.x ∙ ap x_of asked in
-        let b_is : place.b ≡ b_of (target_of (row_chosen choice).kind (operand_of_kind names_e (slots (row_chosen choice)) m.operands)) = b ∙ has.e.b ∙ ap b_of asked in
+        ap bit has.r ∙ bit_again ((g / 8) % 2) (omega arith)
+        ∙ ap (λ s. (number_of (operand_of_kind names_g s m.operands) / 8) % 2) is.slots in
+        let v : numbers.vvvv ≡ number_of (operand_of_kind names_v (slots (row_chosen choice)) m.operands) % 16 =
+        has.vvvv ∙ ap (λ s. number_of (operand_of_kind names_v s m.operands) % 16) is.slots in
+        let x_is : place.x ≡ x_of (target_of (row_chosen choice).kind
+        (operand_of_kind names_e (slots (row_chosen choice)) m.operands)) = x ∙ has.e.x ∙ ap x_of asked in
+        let b_is : place.b ≡ b_of (target_of (row_chosen choice).kind
+        (operand_of_kind names_e (slots (row_chosen choice)) m.operands)) = b ∙ has.e.b ∙ ap b_of asked in
         let l : bit choice.l ≡ (if choice.l then 1 else 0) = l_seen choice.l in
-        λ i. record { map = choice.entry.map; pp = choice.entry.pp; w = choice.w; l = l i; r = r i; x = x_is i; b = b_is i; v = v i }
+        λ i. record {
+          map = choice.entry.map;
+          pp = choice.entry.pp;
+          w = choice.w;
+          l = l i;
+          r = r i;
+          x = x_is i;
+          b =
+              b_is i;
+          v = v i;
+        }
 
     reg_is : numbers.reg ≡ (candidate (row_chosen choice) m).reg
     unfolding candidate
-    reg_is = has.reg ∙ ap₂ (λ group s. unwrap_or group (number_of (operand_of_kind names_g s m.operands) % 8)) is.group is.slots ∙ reg_made (row_chosen choice).group _
+    reg_is = has.reg ∙ ap₂ (λ group s. unwrap_or group (number_of (operand_of_kind names_g s m.operands) % 8)) is.group
+        is.slots ∙ reg_made (row_chosen choice).group _
 
     place_is : place.bytes.items ≡ place_bytes 0 (candidate (row_chosen choice) m).place
     unfolding candidate
@@ -108,10 +142,15 @@ module _ (choice : RowChoice) (layout : RowLayout) (is : IsLayout (row_chosen ch
     unfolding candidate
     form_is = refl
 
-    pub written : prefix_bytes (shortest_form (fields_of prefix)) (fields_of prefix) ++ choice.entry.byte ∷ (with_reg numbers.reg place.bytes.items ++ imm_bytes layout.has_imm numbers.imm) ≡ bytes_of (row_chosen choice) (candidate (row_chosen choice) m)
+    pub written : prefix_bytes (shortest_form (fields_of prefix)) (fields_of prefix) ++ choice.entry.byte
+        ∷ (with_reg numbers.reg place.bytes.items ++ imm_bytes layout.has_imm numbers.imm)
+        ≡ bytes_of (row_chosen choice) (candidate (row_chosen choice) m)
     written =
-        let front : prefix_bytes (shortest_form (fields_of prefix)) (fields_of prefix) ≡ prefix_bytes (candidate (row_chosen choice) m).form (candidate (row_chosen choice) m).fields =
-        ap (λ f. prefix_bytes (shortest_form f) f) fields_made ∙ ap (λ form. prefix_bytes form (candidate (row_chosen choice) m).fields) (sym form_is) in
-        let place_and_reg : with_reg numbers.reg place.bytes.items ≡ place_bytes (candidate (row_chosen choice) m).reg (candidate (row_chosen choice) m).place =
+        let front : prefix_bytes (shortest_form (fields_of prefix)) (fields_of prefix)
+        ≡ prefix_bytes (candidate (row_chosen choice) m).form (candidate (row_chosen choice) m).fields =
+        ap (λ f. prefix_bytes (shortest_form f) f) fields_made
+        ∙ ap (λ form. prefix_bytes form (candidate (row_chosen choice) m).fields) (sym form_is) in
+        let place_and_reg : with_reg numbers.reg place.bytes.items
+        ≡ place_bytes (candidate (row_chosen choice) m).reg (candidate (row_chosen choice) m).place =
         ap₂ with_reg reg_is place_is ∙ reg_added _ (candidate (row_chosen choice) m).place in
         λ i. front i ++ choice.entry.byte ∷ (place_and_reg i ++ imm_bytes (is.has_imm i) (imm_is i))

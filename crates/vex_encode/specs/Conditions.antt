@@ -33,7 +33,8 @@ SlotBaseFits (Some base) index = RegisterFits Q base ⊎ ((base ≡ instruction_
 -- vector register, with a scale of 1, 2, 4 or 8
 abbrev pub SlotIndexFits : Bool → RegisterBank → Option Index → Type 0
 SlotIndexFits vector bank None = vector ≡ false
-SlotIndexFits vector bank (Some index) = RegisterFits bank index.reg × MayBeIndex vector index.reg.num × IsScale index.scale
+SlotIndexFits vector bank (Some index) =
+    RegisterFits bank index.reg × MayBeIndex vector index.reg.num × IsScale index.scale
 
 -- base and index fit, and the displacement has 32 bits: where the index is a vector register it is there, so that the
 -- base isn't the instruction pointer

@@ -1,4 +1,5 @@
--- Private functions alone cite what stands here: what a form asks of an instruction's operands before a row is laid out.
+-- Private functions alone cite what stands here: what a form asks of an instruction's operands before a row is laid
+-- out.
 use Rattle.std.specs.Prelude.{◌≡◌, Bool, true, false, ◌&&◌, List, [], ◌∷◌, length}
 use Rattle.x86_operand.specs.declared.register.RegisterBank.{RegisterBank}
 use Rattle.x86_operand.specs.Instruction.{operand_at}
@@ -44,8 +45,8 @@ is_optional _ = false
 abbrev pub is_missing : Bool → SlotRule → Bool
 is_missing in_memory rule = in_memory && is_optional rule
 
--- there are as many operands as slot rules, each what its rule asks for. Of three rules the second may have no slot; where
--- another may have none, nothing is said
+-- there are as many operands as slot rules, each what its rule asks for. Of three rules the second may have no slot;
+-- where another may have none, nothing is said
 abbrev pub RulesFit : Row → Bool → List SlotRule → List OperandMeaning → Type 0
 RulesFit row in_memory [] operands = length operands ≡ 0
 RulesFit row in_memory (a ∷ []) operands =

@@ -51,4 +51,5 @@ StandardIsSome = (row : Row) (m : Meaning) → IsRow row → IsSome (standard ro
 
 -- there are no standard bytes of a meaning by a row exactly where no bytes spell it by the row
 abbrev pub StandardIsNone : Type 0
-StandardIsNone = (row : Row) (m : Meaning) → IsRow row → standard row m ≡ None ↔ ((bytes : List ℕ) → SpellsBy bytes m row → ⊥)
+StandardIsNone = (row : Row) (m : Meaning) → IsRow row
+    → standard row m ≡ None ↔ ((bytes : List ℕ) → SpellsBy bytes m row → ⊥)

@@ -1,4 +1,5 @@
-use Rattle.std.specs.Prelude.{pos, ℕ, ◌*◌, ◌/◌, ◌%◌, Bool, not, ◌&&◌, ◌||◌, List, [], ◌∷◌, Option, Some, None, if◌then◌else◌}
+use Rattle.std.specs.Prelude.{pos, ℕ, ◌*◌, ◌/◌, ◌%◌, Bool, not, ◌&&◌, ◌||◌, List, [], ◌∷◌, Option, Some, None}
+use Rattle.std.specs.Prelude.{if◌then◌else◌}
 use Rattle.std.specs.Int.{cast_unsigned, w8}
 use Rattle.x86_operand.specs.Kind.{Kind, WithoutModRM, InRegister, InMemory, VectorIndexed, is_vector}
 use Rattle.x86_operand.specs.Meaning.{OperandMeaning, register, signed, unsigned, memory, nothing, Meaning}
@@ -81,8 +82,8 @@ candidate row m =
     (target_of row.kind (operand_of_kind names_e (slots row) m.operands))
     (imm_of (operand_of_kind names_imm (slots row) m.operands))
 
--- whether a place can be that of the kind: where the index is a vector register there is a SIB byte (Intel SDM volume 2,
--- section 2.3.12)
+-- whether a place can be that of the kind: where the index is a vector register there is a SIB byte (Intel SDM volume
+-- 2, section 2.3.12)
 abbrev pub is_placed : Kind → Place → Bool
 is_placed kind place = not (is_vector kind) || has_sib place
 

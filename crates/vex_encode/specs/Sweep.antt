@@ -1,6 +1,7 @@
 -- What a sweep answers: one instruction after another, from the front of some bytes on.
 pub mod Lemmas
-use Rattle.std.specs.Prelude.{◌≡◌, ℕ, zero, suc, ◌+◌, ◌-◌, ◌<◌, Bool, false, true, List, [], ◌∷◌, ◌++◌, length, take, drop, flat_map, All, Option, Some, None, Result, Ok, Err, unwrap_or}
+use Rattle.std.specs.Prelude.{◌≡◌, ℕ, zero, suc, ◌+◌, ◌-◌, ◌<◌, Bool, false, true, List, [], ◌∷◌, ◌++◌, length, take}
+use Rattle.std.specs.Prelude.{drop, flat_map, All, Option, Some, None, Result, Ok, Err, unwrap_or}
 use Rattle.x86_operand.specs.declared.error.DecodeError.{DecodeError}
 use Rattle.x86_operand.specs.Meaning.{Decoded}
 use Rattle.x86_permit.specs.Permission.{permits}
@@ -29,7 +30,13 @@ pub record Swept : Type 0 where
 
 -- an item of the code's, as contracts see it
 abbrev pub item_seen : SweepItem → SweptItem
-item_seen item = record { place = item.place; bytes = item.bytes.now; decoded = item.instruction; spelling = item.spelling }
+item_seen item = record {
+  place = item.place;
+  bytes = item.bytes.now;
+  decoded = item.instruction;
+  spelling =
+      item.spelling;
+}
 
 -- the bytes that were read, one item's after another's
 abbrev pub joined : List SweptItem → List ℕ
@@ -95,4 +102,5 @@ AreInPlace place (item ∷ items) = (item.place ≡ place) × AreInPlace (place 
 abbrev pub EndsAfter : List Bool → List ℕ → List ℕ → SweepEnd → Type 0
 EndsAfter settings front bytes End = bytes ≡ front
 EndsAfter settings front bytes (Stopped place error) =
-    (place ≡ length front) × (place < length bytes) × ((n : ℕ) × (blocked settings (drop place bytes) ≡ Some (error, n)))
+    (place ≡ length front) × (place < length bytes)
+    × ((n : ℕ) × (blocked settings (drop place bytes) ≡ Some (error, n)))

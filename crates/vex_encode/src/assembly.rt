@@ -9,7 +9,8 @@ ghost use Rattle.x86_operand.specs.declared.register.RegisterBank.TheVariants.{Q
 ghost use Rattle.x86_address.specs.Shortest.{in_banks, index_register, plain, plain_index};
 ghost use Rattle.x86_address.specs.Spells.{BaseFits, IndexFits};
 ghost use Rattle.vex_forms.specs.Operands.{BanksFit, NumberFits};
-ghost use Rattle.vex_encode.specs.Assembly.{AsksFor, CanBePlaced, HasNumbers, GeneralAddress, IsAddress, IsAddressOf, IsAsked, IsPlaced};
+ghost use Rattle.vex_encode.specs.Assembly.{AsksFor, CanBePlaced, HasNumbers, GeneralAddress, IsAddress, IsAddressOf};
+ghost use Rattle.vex_encode.specs.Assembly.{IsAsked, IsPlaced};
 ghost use Rattle.vex_encode.specs.Kind.{kind_seen};
 ghost use Rattle.vex_encode.specs.Standard.{target_of};
 ghost use Rattle.vex_encode.specs.Conditions.{AddressFits, SlotIndexFits};

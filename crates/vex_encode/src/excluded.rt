@@ -62,7 +62,8 @@ fn e_may_fit(rule: BankRule, w: bool, l: bool, memory: bool, operand: Operand) -
 /// Whether an operand can stand at the slot that a form names. A slot that isn't there takes any.
 #[inline(always)]
 fn rule_may_fit(rule: SlotRule, w: bool, l: bool, memory: bool, operand: Operand) -> bool
-    ensures { (row : Row) → row.w ≡ w → row.l ≡ (if l then 1 else 0) → RuleFits row memory rule (operand_meaning operand)
+    ensures { (row : Row) → row.w ≡ w → row.l ≡ (if l then 1 else 0)
+        → RuleFits row memory rule (operand_meaning operand)
         → IsTrue result }
 {
     match rule {

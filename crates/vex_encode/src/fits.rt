@@ -6,7 +6,8 @@ ghost use Rattle.vex_rows.specs.Row.{Row};
 ghost use Rattle.vex_forms.specs.Layout.{IsLayout};
 ghost use Rattle.vex_encode.specs.Assembly.{IsAddressOf, IsAsked, IsRegisterOf};
 ghost use Rattle.vex_encode.specs.Kind.{kind_seen};
-ghost use Rattle.vex_encode.specs.Conditions.{AddressFits, CanGive, PlacedFits, RegisterFits, SlotBaseFits, SlotIndexFits};
+ghost use Rattle.vex_encode.specs.Conditions.{AddressFits, CanGive, PlacedFits, RegisterFits, SlotBaseFits};
+ghost use Rattle.vex_encode.specs.Conditions.{SlotIndexFits};
 
 use crate::kind::Kind;
 use crate::operand_walk::{Asked, operands_asked};
@@ -34,8 +35,8 @@ fn base_fits(base: Option<RegSpec>, index: Option<Index>) -> bool
     }
 }
 
-/// Whether an address can have this index, of that bank: the number 4 means none, unless the index is a vector register,
-/// which has to be there (Intel SDM volume 2, sections 2.1.5 and 2.3.12).
+/// Whether an address can have this index, of that bank: the number 4 means none, unless the index is a vector
+/// register, which has to be there (Intel SDM volume 2, sections 2.1.5 and 2.3.12).
 fn index_fits(vector: bool, bank: RegisterBank, index: Option<Index>) -> bool
     ensures { IsTrue result ↔ SlotIndexFits vector bank index }
 {

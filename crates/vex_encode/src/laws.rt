@@ -1,7 +1,8 @@
 //! What holds of all canonical bytes, each law as the contract of a function that does nothing, but for
 //! naming the laws that it follows from.
 
-ghost use Rattle.vex_encode.specs.Laws.{CanonicalAgain, CanonicalDecodes, CanonicalNotBlocked, CanonicalSpells, CanonicalTellsApart, Shortest, StandardIsNone, StandardIsSome};
+ghost use Rattle.vex_encode.specs.Laws.{CanonicalAgain, CanonicalDecodes, CanonicalNotBlocked, CanonicalSpells};
+ghost use Rattle.vex_encode.specs.Laws.{CanonicalTellsApart, Shortest, StandardIsNone, StandardIsSome};
 
 use vex_decode::{blocked_or_begun, one_meaning, prefix_free};
 

@@ -1,7 +1,7 @@
 //! The shortest spelling of an instruction.
 //!
-//! `recode` decodes and answers the canonical bytes besides, `encode_shortest` starts from the instruction, and `sweep` goes
-//! over a run of instructions.
+//! `recode` decodes and answers the canonical bytes besides, `encode_shortest` starts from the instruction, and `sweep`
+//! goes over a run of instructions.
 //!
 //! ```
 //! use vex_encode::recode;

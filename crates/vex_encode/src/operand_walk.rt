@@ -110,7 +110,8 @@ impl Asked {
     ) -> bool
         ensures fits { IsTrue result
             ↔ OperandFits (kind_seen kind) index_bank slot (operand_at instruction.now.meaning.operands i) }
-        ensures asked { (slots : List Slot) (operands : List OperandMeaning) → IsTrue result → IsAsked slots operands self.old
+        ensures asked { (slots : List Slot) (operands : List OperandMeaning) → IsTrue result
+            → IsAsked slots operands self.old
             → IsAsked (slot ∷ slots) (operand_at instruction.now.meaning.operands i ∷ operands) self.new }
     {
         match slot {

@@ -51,7 +51,8 @@ pub fn recode(decoder: &InstDecoder, bytes: &[u8]) -> Result<(Instruction, Spell
     ensures begun { IsOk result ↔ (blocked decoder.now bytes.now ≡ None) }
     ensures within { IfOk result (λ recoded. recoded.0.len ≤ length bytes.now) }
     ensures spelled { IfOk result (λ recoded. Spells (take recoded.0.len bytes.now) recoded.0.meaning) }
-    ensures permitted { IfOk result (λ recoded. permits decoder.now recoded.0.meaning.evex recoded.0.meaning.opcode ≡ true) }
+    ensures permitted { IfOk result (λ recoded. permits decoder.now recoded.0.meaning.evex recoded.0.meaning.opcode
+        ≡ true) }
 
     // The canonical bytes spell the same meaning, and are accepted under the same settings.
     ensures canonical { IfOk result (λ recoded. canon recoded.0.meaning ≡ Some recoded.1) }

@@ -12,7 +12,8 @@ use step_counter::Steps;
 use x86_operand::{EncodeError, Instruction};
 
 /// The canonical bytes of an instruction's meaning: the first of the shortest standard bytes over all rows, 3 to 11
-/// bytes. The length that the instruction holds plays no part. Counts a probe for each entry of the opcode, at most four.
+/// bytes. The length that the instruction holds plays no part. Counts a probe for each entry of the opcode, at most
+/// four.
 ///
 /// `NoSpelling` comes exactly where no byte string spells the meaning. These are the cases:
 /// - The instruction has the EVEX mark, or no entry gives its opcode.

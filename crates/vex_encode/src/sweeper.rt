@@ -1,10 +1,12 @@
 //! Decoding one instruction after another from the front of a slice.
 
-ghost use Rattle.std.specs.Prelude.{◌≡◌, ◌≤◌, ◌<◌, All, IfOk, IfErr, Some, length, map, option_map, slice_get, ℕ, Ok, Err};
+ghost use Rattle.std.specs.Prelude.{◌≡◌, ◌≤◌, ◌<◌, All, IfOk, IfErr, Some, length, map, option_map, slice_get, ℕ, Ok};
+ghost use Rattle.std.specs.Prelude.{Err};
 ghost use Rattle.std.specs.Option.{option_copied};
 ghost use Rattle.x86_address.specs.Bytes.{Begins};
 ghost use Rattle.vex_decode.specs.Blocked.{blocked};
-ghost use Rattle.vex_encode.specs.Sweep.{swept, joined, item_seen, IsPermitted, AreInPlace, EndsAfter, first_of_bytes, item_at};
+ghost use Rattle.vex_encode.specs.Sweep.{swept, joined, item_seen, IsPermitted, AreInPlace, EndsAfter, first_of_bytes};
+ghost use Rattle.vex_encode.specs.Sweep.{item_at};
 
 use crate::recoder::recode;
 use crate::spelling::Spelling;
@@ -122,8 +124,8 @@ fn item_at<'a>(
 }
 
 /// Decodes one instruction after another from the front of the bytes on, until none is left or the rest is refused, as
-/// `recode` refuses it. It takes memory for the list of the items. `NoMemory` comes where there is none; nothing but the
-/// list is lost then.
+/// `recode` refuses it. It takes memory for the list of the items. `NoMemory` comes where there is none; nothing but
+/// the list is lost then.
 pub fn sweep<'a>(
     alloc: Global,
     decoder: &InstDecoder,

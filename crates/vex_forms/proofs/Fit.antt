@@ -1,5 +1,6 @@
 -- The bank of every slot of a row has sixteen registers, and so has that of its index.
-use Rattle.std.specs.Prelude.{◌≡◌, refl, ℕ, ◌<◌, Bool, true, false, ◌==◌, ◌&&◌, List, [], ◌∷◌, ◌++◌, flat_map, length, if◌then◌else◌}
+use Rattle.std.specs.Prelude.{◌≡◌, refl, ℕ, ◌<◌, Bool, true, false, ◌==◌, ◌&&◌, List, [], ◌∷◌, ◌++◌, flat_map, length}
+use Rattle.std.specs.Prelude.{if◌then◌else◌}
 use Rattle.std.proofs.Common.{zero, suc, arith, get_or}
 use Rattle.x86_opcode.specs.declared.Opcode.{Opcode}
 use Rattle.x86_opcode.specs.declared.Opcode.TheVariants.{Integer, Float}
@@ -15,7 +16,8 @@ use Rattle.vex_rows.specs.FormRows.{form_row, gathers}
 use Rattle.vex_rows.specs.Row.{Row, is_memory}
 use Rattle.vex_forms.specs.declared.slot.Slot.{Slot}
 use Rattle.vex_forms.specs.declared.slot.Slot.TheVariants.{V}
-use Rattle.vex_forms.specs.Slots.{slots, slots_at, index_bank, bank_at, vector, general, element_bank, gather_bank, gather_index_bank}
+use Rattle.vex_forms.specs.Slots.{slots, slots_at, index_bank, bank_at, vector, general, element_bank, gather_bank}
+use Rattle.vex_forms.specs.Slots.{gather_index_bank}
 use Rattle.vex_forms.specs.Operands.{has_sixteen, slot_fits, slots_fit}
 
 vector_fits : (l : ℕ) → has_sixteen (vector l) ≡ true
@@ -73,7 +75,8 @@ rule_fits row (slot_rule.R4 bank) = fits_then _ true (bank_fits row bank) refl
 
 rules_fit : (row : Row) (slots : List SlotRule) → slots_fit (flat_map (slots_at row) slots) ≡ true
 rules_fit row [] = refl
-rules_fit row (slot ∷ slots) = fits_append (slots_at row slot) (flat_map (slots_at row) slots) (rule_fits row slot) (rules_fit row slots)
+rules_fit row (slot ∷ slots) = fits_append (slots_at row slot) (flat_map (slots_at row) slots) (rule_fits row slot)
+    (rules_fit row slots)
 
 pub slots_fit_row : (row : Row) → slots_fit (slots row) ≡ true
 unfolding slots
@@ -92,7 +95,9 @@ index_fits_row row = by (gathers row.entry.form) where
   by false = refl
 
 -- where all slots fit, so does each
-pub slot_fits_at : (slots : List Slot) (i : ℕ) (s : Slot) → slots_fit slots ≡ true → i < length slots → slot_fits (get_or slots i s) ≡ true
+pub slot_fits_at : (slots : List Slot) (i : ℕ) (s : Slot) → slots_fit slots ≡ true → i < length slots
+    → slot_fits (get_or slots i s) ≡ true
 slot_fits_at [] i s fit h = absurd (omega arith)
 slot_fits_at (x ∷ slots) zero s fit h = (both_fit (slot_fits x) (slots_fit slots) fit).0
-slot_fits_at (x ∷ slots) (suc i) s fit h = slot_fits_at slots i s (both_fit (slot_fits x) (slots_fit slots) fit).1 (omega arith)
+slot_fits_at (x ∷ slots) (suc i) s fit h =
+    slot_fits_at slots i s (both_fit (slot_fits x) (slots_fit slots) fit).1 (omega arith)

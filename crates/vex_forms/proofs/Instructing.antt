@@ -26,29 +26,45 @@ bit_is true = refl
 bit_is false = refl
 
 -- what a step of the walk answered has passed all checks
-passed_of : {entry : Entry} {prefix : Prefix} {fields : OperandFields} {old new : ReaderState} (f : Follows (walk_form entry (fields_of prefix)) (IsOperands prefix) old new (Ok fields)) → Passed entry (fields_of prefix) f.answers.0
-passed_of {entry} {prefix} {fields} f = walk_form-passed entry (fields_of prefix) f.bytes (f.answers.0, []) (takes_all fields f)
+passed_of : {entry : Entry} {prefix : Prefix} {fields : OperandFields} {old new : ReaderState}
+    (f : Follows (walk_form entry (fields_of prefix)) (IsOperands prefix) old new (Ok fields))
+    → Passed entry (fields_of prefix) f.answers.0
+passed_of {entry} {prefix} {fields} f = walk_form-passed entry (fields_of prefix) f.bytes (f.answers.0, [])
+    (takes_all fields f)
 
 -- the row at the kind of the operand E and the reg field is the row that was chosen
 pub row_again : (entry : Entry) (prefix : Prefix) (operands : Operands) → Among operands.kind (kinds_of entry.form)
     → row_for entry prefix.w prefix.l (is_memory operands.kind) operands.reg ≡ row_of entry (fields_of prefix) operands
 row_again entry prefix operands among =
     let kind = kind-again (gathers entry.form) (steps entry.form).modrm operands.kind among in
-    λ i. record { entry = entry; w = prefix.w; l = bit_is prefix.l i; kind = kind i; group = group_for entry.form operands.reg }
+    λ i. record {
+      entry = entry;
+      w = prefix.w;
+      l = bit_is prefix.l i;
+      kind = kind i;
+      group =
+          group_for entry.form operands.reg;
+    }
 
 -- and it can be
-pub may_again : (entry : Entry) (operands : Operands) → Among operands.kind (kinds_of entry.form) → may_be entry (is_memory operands.kind) ≡ true
+pub may_again : (entry : Entry) (operands : Operands) → Among operands.kind (kinds_of entry.form)
+    → may_be entry (is_memory operands.kind) ≡ true
 may_again entry operands among = may_be-again (gathers entry.form) (steps entry.form).modrm operands.kind among
 
 module _ (entry : Entry) (prefix : Prefix) (fields : OperandFields) {old new : ReaderState} {memory : Bool}
-    (f : Follows (walk_form entry (fields_of prefix)) (IsOperands prefix) old new (Ok fields)) (memory_is : memory ≡ is_memory (kind_of_e fields.e)) where
+    (f : Follows (walk_form entry (fields_of prefix)) (IsOperands prefix) old new (Ok fields))
+    (memory_is : memory ≡ is_memory (kind_of_e fields.e)) where
   in_memory : memory ≡ is_memory f.answers.0.kind
-  in_memory = memory_is ∙ ap is_memory (f.answers.1.e.kind ∙ (passed_of f).place.plain) ∙ is_memory-plain f.answers.0.kind
+  in_memory = memory_is ∙ ap is_memory (f.answers.1.e.kind ∙ (passed_of f).place.plain)
+      ∙ is_memory-plain f.answers.0.kind
 
   row_is : row_for entry prefix.w prefix.l memory fields.reg ≡ row_of entry (fields_of prefix) f.answers.0
-  row_is = ap₂ (λ m reg. row_for entry prefix.w prefix.l m reg) in_memory f.answers.1.reg ∙ row_again entry prefix f.answers.0 (passed_of f).kind
+  row_is = ap₂ (λ m reg. row_for entry prefix.w prefix.l m reg) in_memory f.answers.1.reg
+      ∙ row_again entry prefix f.answers.0 (passed_of f).kind
 
-  meaning_is : (instruction : Decoded) → instruction.meaning ≡ gives (row_for entry prefix.w prefix.l memory fields.reg) (bit fields.r) fields.vvvv fields.reg (target_seen fields.e) fields.imm
+  meaning_is : (instruction : Decoded) → instruction.meaning
+      ≡ gives (row_for entry prefix.w prefix.l memory fields.reg) (bit fields.r) fields.vvvv fields.reg
+      (target_seen fields.e) fields.imm
       → instruction.len ≡ 0 → IsInstruction entry (fields_of prefix) f.answers.0 instruction
   meaning_is instruction meaning length =
       let is = f.answers.1 in
@@ -57,10 +73,14 @@ module _ (entry : Entry) (prefix : Prefix) (fields : OperandFields) {old new : R
         length = length;
       }
 
-pub is_instruction : (entry : Entry) (prefix : Prefix) (fields : OperandFields) {old new : ReaderState} {memory : Bool} {row : Row} {instruction : Decoded}
-    → (f : Follows (walk_form entry (fields_of prefix)) (IsOperands prefix) old new (Ok fields)) → memory ≡ is_memory (kind_of_e fields.e)
+pub is_instruction : (entry : Entry) (prefix : Prefix) (fields : OperandFields) {old new : ReaderState} {memory : Bool}
+    {row : Row} {instruction : Decoded}
+    → (f : Follows (walk_form entry (fields_of prefix)) (IsOperands prefix) old new (Ok fields))
+    → memory ≡ is_memory (kind_of_e fields.e)
     → row ≡ row_for entry prefix.w prefix.l memory fields.reg
     → instruction.meaning ≡ gives row (bit fields.r) fields.vvvv fields.reg (target_seen fields.e) fields.imm
     → instruction.len ≡ 0 → IsInstruction entry (fields_of prefix) f.answers.0 instruction
 is_instruction entry prefix fields f memory_is chosen_is meaning length =
-    meaning_is entry prefix fields f memory_is _ (meaning ∙ ap (λ row. gives row (bit fields.r) fields.vvvv fields.reg (target_seen fields.e) fields.imm) chosen_is) length
+    meaning_is entry prefix fields f memory_is _
+    (meaning ∙ ap (λ row. gives row (bit fields.r) fields.vvvv fields.reg (target_seen fields.e) fields.imm)
+    chosen_is) length

@@ -18,7 +18,8 @@ bit_below true = omega arith
 bit_below false = omega arith
 
 -- a register
-pub in_register : (vector x b : Bool) (rm num : ℕ) → rm < 8 → num ≡ rm + 8 * bit b → IsOperandE vector x b (Direct rm) (Register num)
+pub in_register : (vector x b : Bool) (rm num : ℕ) → rm < 8 → num ≡ rm + 8 * bit b
+    → IsOperandE vector x b (Direct rm) (Register num)
 in_register vector x b rm num below is = record {
   kind = refl;
   target = rw is refl;
@@ -29,13 +30,15 @@ in_register vector x b rm num below is = record {
 }
 
 -- the step of an operand that is a register
-pub direct_step : (has_address : Bool) (mode rm : ℕ) → (has_address ≡ false) ⊎ (mode ≡ 3) → (bytes : List ℕ) → place_by has_address mode rm bytes ≡ Ok (Direct rm, bytes)
+pub direct_step : (has_address : Bool) (mode rm : ℕ) → (has_address ≡ false) ⊎ (mode ≡ 3) → (bytes : List ℕ)
+    → place_by has_address mode rm bytes ≡ Ok (Direct rm, bytes)
 direct_step false mode rm h bytes = refl
 direct_step true mode rm (inl e) bytes = cc
 direct_step true mode rm (inr e) bytes = rw e refl
 
 -- what names an address is in memory
-named_in_memory : (place : Place) (vector x b : Bool) (address : Address) → NamesAddress vector x b place address → kind_of place ≡ InMemory
+named_in_memory : (place : Place) (vector x b : Bool) (address : Address) → NamesAddress vector x b place address
+    → kind_of place ≡ InMemory
 named_in_memory NoPlace vector x b address named = let e = named.names in cc
 named_in_memory (Direct rm) vector x b address named = let e = named.names in cc
 named_in_memory (Based rm d) vector x b address named = refl
@@ -44,7 +47,8 @@ named_in_memory (Scaled k i j d) vector x b address named = refl
 named_in_memory (Baseless k i n) vector x b address named = refl
 
 -- an address
-pub in_memory : (vector x b : Bool) (place : Place) (address : Address) → NamesAddress vector x b place address → IsOperandE vector x b place (Memory address)
+pub in_memory : (vector x b : Bool) (place : Place) (address : Address) → NamesAddress vector x b place address
+    → IsOperandE vector x b place (Memory address)
 in_memory vector x b place address named = record {
   kind = sym (named_in_memory place vector x b address named);
   target = sym named.names;

@@ -1,5 +1,6 @@
 -- The table of shapes is what the table of forms says.
-use Rattle.std.specs.Prelude.{◌≡◌, refl, ℕ, Bool, true, false, not, ◌&&◌, ◌||◌, List, [], ◌∷◌, map, take, Option, None, Some, if◌then◌else◌}
+use Rattle.std.specs.Prelude.{◌≡◌, refl, ℕ, Bool, true, false, not, ◌&&◌, ◌||◌, List, [], ◌∷◌, map, take, Option, None}
+use Rattle.std.specs.Prelude.{Some, if◌then◌else◌}
 use Rattle.std.specs.List.{list_all}
 use Rattle.std.proofs.Common.{ap, sym, ◌∙◌}
 use Rattle.x86_opcode.specs.declared.Opcode.{Opcode}
@@ -29,7 +30,16 @@ use Rattle.vex_forms.proofs.Choices.{exists_by_checks}
 
 -- an entry that has a form
 with_form : Entry → Form → Entry
-with_form entry form = record { map = entry.map; pp = entry.pp; byte = entry.byte; w = entry.w; l = entry.l; form = form; opcode = entry.opcode }
+with_form entry form = record {
+  map = entry.map;
+  pp = entry.pp;
+  byte = entry.byte;
+  w = entry.w;
+  l = entry.l;
+  form =
+      form;
+  opcode = entry.opcode;
+}
 
 -- a row of a form
 abbrev row_with : Form → Bool → Bool → Bool → Entry → Option ℕ → Row
@@ -57,7 +67,8 @@ by_banks Gather element gather = Some gather
 -- the slots with these banks of elements and of gathers
 abbrev slots_with : RowShape → RegisterBank → RegisterBank → Option (List Slot)
 slots_with shape element gather =
-    by_banks shape.banks (take shape.slot_count (map (with_e_in element) (four_slots shape))) (take shape.slot_count (map (with_bank gather) (four_slots shape)))
+    by_banks shape.banks (take shape.slot_count (map (with_e_in element) (four_slots shape)))
+    (take shape.slot_count (map (with_bank gather) (four_slots shape)))
 
 -- the shape is that of the row
 record IsShape (shape : RowShape) (row : Row) (memory : Bool) : Type 0 where
@@ -70,8 +81,10 @@ record IsShape (shape : RowShape) (row : Row) (memory : Bool) : Type 0 where
 
 -- where banks go by the opcode, the slots with each of them are those of the form's shape at another W or L
 record HasBanks (form : Form) (w l memory : Bool) (shape : RowShape) : Type 0 where
-  narrow : slots_with shape D X ≡ by_banks shape.banks (slots_seen (shape_of form false l memory)) (slots_seen (shape_of form w false memory))
-  wide : slots_with shape Q Y ≡ by_banks shape.banks (slots_seen (shape_of form true l memory)) (slots_seen (shape_of form w true memory))
+  narrow : slots_with shape D X ≡ by_banks shape.banks (slots_seen (shape_of form false l memory))
+      (slots_seen (shape_of form w false memory))
+  wide : slots_with shape Q Y ≡ by_banks shape.banks (slots_seen (shape_of form true l memory))
+      (slots_seen (shape_of form w true memory))
 
 has_banks : (w l memory : Bool) (form : Form) → HasBanks form w l memory (shape_of form w l memory)
 unfolding shape_of by_banks
@@ -93,44 +106,68 @@ has_banks true true true Nothing = record { narrow = refl; wide = refl }
 has_banks true true true _ = record { narrow = refl; wide = refl }
 
 -- computed at every form, W, L and place of the operand E
-shaped : (w l memory : Bool) (form : Form) (entry : Entry) (group : Option ℕ) → IsShape (shape_of form w l memory) (row_with form w l memory entry group) memory
+shaped : (w l memory : Bool) (form : Form) (entry : Entry) (group : Option ℕ)
+    → IsShape (shape_of form w l memory) (row_with form w l memory entry group) memory
 unfolding shape_of has_groups slots v_rule size_of steps gathers form_row with_form permits_with
-shaped false false false Nothing entry group = record { group = refl; slots = refl; vvvv = refl; size = refl; permitted = refl; refused = refl }
-shaped false false false _ entry group = record { group = refl; slots = refl; vvvv = refl; size = refl; permitted = refl; refused = refl }
-shaped false false true Nothing entry group = record { group = refl; slots = refl; vvvv = refl; size = refl; permitted = refl; refused = refl }
-shaped false false true _ entry group = record { group = refl; slots = refl; vvvv = refl; size = refl; permitted = refl; refused = refl }
-shaped false true false Nothing entry group = record { group = refl; slots = refl; vvvv = refl; size = refl; permitted = refl; refused = refl }
-shaped false true false _ entry group = record { group = refl; slots = refl; vvvv = refl; size = refl; permitted = refl; refused = refl }
-shaped false true true Nothing entry group = record { group = refl; slots = refl; vvvv = refl; size = refl; permitted = refl; refused = refl }
-shaped false true true _ entry group = record { group = refl; slots = refl; vvvv = refl; size = refl; permitted = refl; refused = refl }
-shaped true false false Nothing entry group = record { group = refl; slots = refl; vvvv = refl; size = refl; permitted = refl; refused = refl }
-shaped true false false _ entry group = record { group = refl; slots = refl; vvvv = refl; size = refl; permitted = refl; refused = refl }
-shaped true false true Nothing entry group = record { group = refl; slots = refl; vvvv = refl; size = refl; permitted = refl; refused = refl }
-shaped true false true _ entry group = record { group = refl; slots = refl; vvvv = refl; size = refl; permitted = refl; refused = refl }
-shaped true true false Nothing entry group = record { group = refl; slots = refl; vvvv = refl; size = refl; permitted = refl; refused = refl }
-shaped true true false _ entry group = record { group = refl; slots = refl; vvvv = refl; size = refl; permitted = refl; refused = refl }
-shaped true true true Nothing entry group = record { group = refl; slots = refl; vvvv = refl; size = refl; permitted = refl; refused = refl }
-shaped true true true _ entry group = record { group = refl; slots = refl; vvvv = refl; size = refl; permitted = refl; refused = refl }
+shaped false false false Nothing entry group =
+    record { group = refl; slots = refl; vvvv = refl; size = refl; permitted = refl; refused = refl }
+shaped false false false _ entry group =
+    record { group = refl; slots = refl; vvvv = refl; size = refl; permitted = refl; refused = refl }
+shaped false false true Nothing entry group =
+    record { group = refl; slots = refl; vvvv = refl; size = refl; permitted = refl; refused = refl }
+shaped false false true _ entry group = record
+    { group = refl; slots = refl; vvvv = refl; size = refl; permitted = refl; refused = refl }
+shaped false true false Nothing entry group =
+    record { group = refl; slots = refl; vvvv = refl; size = refl; permitted = refl; refused = refl }
+shaped false true false _ entry group = record
+    { group = refl; slots = refl; vvvv = refl; size = refl; permitted = refl; refused = refl }
+shaped false true true Nothing entry group =
+    record { group = refl; slots = refl; vvvv = refl; size = refl; permitted = refl; refused = refl }
+shaped false true true _ entry group = record
+    { group = refl; slots = refl; vvvv = refl; size = refl; permitted = refl; refused = refl }
+shaped true false false Nothing entry group =
+    record { group = refl; slots = refl; vvvv = refl; size = refl; permitted = refl; refused = refl }
+shaped true false false _ entry group = record
+    { group = refl; slots = refl; vvvv = refl; size = refl; permitted = refl; refused = refl }
+shaped true false true Nothing entry group =
+    record { group = refl; slots = refl; vvvv = refl; size = refl; permitted = refl; refused = refl }
+shaped true false true _ entry group = record
+    { group = refl; slots = refl; vvvv = refl; size = refl; permitted = refl; refused = refl }
+shaped true true false Nothing entry group =
+    record { group = refl; slots = refl; vvvv = refl; size = refl; permitted = refl; refused = refl }
+shaped true true false _ entry group = record
+    { group = refl; slots = refl; vvvv = refl; size = refl; permitted = refl; refused = refl }
+shaped true true true Nothing entry group =
+    record { group = refl; slots = refl; vvvv = refl; size = refl; permitted = refl; refused = refl }
+shaped true true true _ entry group = record
+    { group = refl; slots = refl; vvvv = refl; size = refl; permitted = refl; refused = refl }
 
 -- slots of one bank by the opcode, where those with that bank are these
-element_moved : (banks : BanksByOpcode) (n : ℕ) (four : List Slot) (l : ℕ) (o : Opcode) (bank : RegisterBank) (others xs ys : List Slot) → banks ≡ Element → element_bank o ≡ bank
-    → by_banks banks (take n (map (with_e_in bank) four)) others ≡ by_banks banks xs ys → xs ≡ take n (slots_by banks l o four)
+element_moved : (banks : BanksByOpcode) (n : ℕ) (four : List Slot) (l : ℕ) (o : Opcode) (bank : RegisterBank)
+    (others xs ys : List Slot) → banks ≡ Element → element_bank o ≡ bank
+    → by_banks banks (take n (map (with_e_in bank) four)) others ≡ by_banks banks xs ys
+    → xs ≡ take n (slots_by banks l o four)
 unfolding by_banks
 element_moved Fixed n four l o bank others xs ys is e same = cc
 element_moved Element n four l o bank others xs ys is e same =
-    let here : take n (map (with_e_in bank) four) ≡ xs = cc in sym here ∙ ap (λ b. take n (map (with_e_in b) four)) (sym e)
+    let here : take n (map (with_e_in bank) four) ≡ xs =
+    cc in sym here ∙ ap (λ b. take n (map (with_e_in b) four)) (sym e)
 element_moved Gather n four l o bank others xs ys is e same = cc
 
-gather_moved : (banks : BanksByOpcode) (n : ℕ) (four : List Slot) (l : ℕ) (o : Opcode) (bank : RegisterBank) (others xs ys : List Slot) → banks ≡ Gather → gather_bank l o ≡ bank
-    → by_banks banks others (take n (map (with_bank bank) four)) ≡ by_banks banks xs ys → ys ≡ take n (slots_by banks l o four)
+gather_moved : (banks : BanksByOpcode) (n : ℕ) (four : List Slot) (l : ℕ) (o : Opcode) (bank : RegisterBank)
+    (others xs ys : List Slot) → banks ≡ Gather → gather_bank l o ≡ bank
+    → by_banks banks others (take n (map (with_bank bank) four)) ≡ by_banks banks xs ys
+    → ys ≡ take n (slots_by banks l o four)
 unfolding by_banks
 gather_moved Fixed n four l o bank others xs ys is e same = cc
 gather_moved Element n four l o bank others xs ys is e same = cc
 gather_moved Gather n four l o bank others xs ys is e same =
-    let here : take n (map (with_bank bank) four) ≡ ys = cc in sym here ∙ ap (λ b. take n (map (with_bank b) four)) (sym e)
+    let here : take n (map (with_bank bank) four) ≡ ys =
+    cc in sym here ∙ ap (λ b. take n (map (with_bank b) four)) (sym e)
 
 -- the checks answer by what that of the reg field answers
-same_checks : (row : Row) (checks : List Check) → list_all (permits_choice row) checks ≡ list_all (permits_with (permits_choice row Group) row) checks
+same_checks : (row : Row) (checks : List Check)
+    → list_all (permits_choice row) checks ≡ list_all (permits_with (permits_choice row Group) row) checks
 unfolding permits_with
 same_checks row [] = refl
 same_checks row (V0 ∷ checks) = ap (λ b. permits_choice row V0 && b) (same_checks row checks)
@@ -161,21 +198,31 @@ module _ (entry : Entry) (w l memory : Bool) (group : Option ℕ) where
   size_shaped = is_shape.size
 
   -- the shape that has the slots, where banks go by the opcode
-  pub element_shaped : (quadword : Bool) → shape.banks ≡ Element → element_bank entry.opcode ≡ general quadword → slots_seen (shape_of entry.form quadword l memory) ≡ slots row
-  element_shaped true is bank = element_moved shape.banks shape.slot_count (four_slots shape) row.l entry.opcode Q _ _ _ is bank (has_banks w l memory entry.form).wide ∙ slots_shaped
-  element_shaped false is bank = element_moved shape.banks shape.slot_count (four_slots shape) row.l entry.opcode D _ _ _ is bank (has_banks w l memory entry.form).narrow ∙ slots_shaped
+  pub element_shaped : (quadword : Bool) → shape.banks ≡ Element → element_bank entry.opcode ≡ general quadword
+      → slots_seen (shape_of entry.form quadword l memory) ≡ slots row
+  element_shaped true is bank = element_moved shape.banks shape.slot_count (four_slots shape) row.l entry.opcode Q _ _
+      _ is bank (has_banks w l memory entry.form).wide ∙ slots_shaped
+  element_shaped false is bank = element_moved shape.banks shape.slot_count (four_slots shape) row.l entry.opcode D _ _
+      _ is bank (has_banks w l memory entry.form).narrow ∙ slots_shaped
 
-  pub gather_shaped : (at : Bool) → shape.banks ≡ Gather → gather_bank row.l entry.opcode ≡ vector (if at then 1 else 0) → slots_seen (shape_of entry.form w at memory) ≡ slots row
-  gather_shaped false is bank = gather_moved shape.banks shape.slot_count (four_slots shape) row.l entry.opcode X _ _ _ is bank (has_banks w l memory entry.form).narrow ∙ slots_shaped
-  gather_shaped true is bank = gather_moved shape.banks shape.slot_count (four_slots shape) row.l entry.opcode Y _ _ _ is bank (has_banks w l memory entry.form).wide ∙ slots_shaped
+  pub gather_shaped : (at : Bool) → shape.banks ≡ Gather
+      → gather_bank row.l entry.opcode ≡ vector (if at then 1 else 0)
+      → slots_seen (shape_of entry.form w at memory) ≡ slots row
+  gather_shaped false is bank = gather_moved shape.banks shape.slot_count (four_slots shape) row.l entry.opcode X _ _ _
+      is bank (has_banks w l memory entry.form).narrow ∙ slots_shaped
+  gather_shaped true is bank = gather_moved shape.banks shape.slot_count (four_slots shape) row.l entry.opcode Y _ _ _
+      is bank (has_banks w l memory entry.form).wide ∙ slots_shaped
 
   by_group : (answer : Bool) → present_with answer row memory ≡ (shape.is_row && (not shape.has_group || answer))
   by_group true = is_shape.permitted
   by_group false = is_shape.refused
 
-  pub exists_shaped : rules_allow entry w l ≡ true → (may_be entry memory && exists row) ≡ (shape.is_row && (not shape.has_group || group_allowed entry.form (if l then 1 else 0) group))
+  pub exists_shaped : rules_allow entry w l ≡ true
+      → (may_be entry memory && exists row) ≡
+      (shape.is_row && (not shape.has_group || group_allowed entry.form (if l then 1 else 0) group))
   exists_shaped h =
-      ap (λ there. may_be entry memory && there) (exists_by_checks entry w l (kind_for entry.form memory) group h ∙ same_checks row (checks_of entry))
+      ap (λ there. may_be entry memory && there)
+      (exists_by_checks entry w l (kind_for entry.form memory) group h ∙ same_checks row (checks_of entry))
       ∙ by_group (permits_choice row Group)
 
 -- whether a form has groups: any entry of the form tells it

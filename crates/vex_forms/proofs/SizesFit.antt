@@ -1,5 +1,6 @@
 -- Every size that a form names is one that a memory operand can have.
-use Rattle.std.specs.Prelude.{◌≡◌, refl, ℕ, nat_le, Bool, true, false, ◌&&◌, ◌==◌, List, [], ◌∷◌, find, cond, Option, Some, None, IfSome, IsSome, if◌then◌else◌, ◌↔◌, ◌≤◌}
+use Rattle.std.specs.Prelude.{◌≡◌, refl, ℕ, nat_le, Bool, true, false, ◌&&◌, ◌==◌, List, [], ◌∷◌, find, cond, Option}
+use Rattle.std.specs.Prelude.{Some, None, IfSome, IsSome, if◌then◌else◌, ◌↔◌, ◌≤◌}
 use Rattle.std.specs.List.{list_all}
 use Rattle.std.proofs.Common.{ap}
 use Rattle.std.proofs.lemmas.Bool.{leb-true}
@@ -64,29 +65,34 @@ count_fits row (ByW a b) h = by row.w where
   by true = a_size b (both-parts (is_size a) (is_size b) h).1
   by false = a_size a (both-parts (is_size a) (is_size b) h).0
 
-found_fits : (opcode : Opcode) (sizes : List (Opcode × ByteCount)) (other : ByteCount) → all_fit sizes ≡ true → counts_fit other ≡ true → counts_fit (found_or (find (is_of opcode) sizes) other) ≡ true
+found_fits : (opcode : Opcode) (sizes : List (Opcode × ByteCount)) (other : ByteCount) → all_fit sizes ≡ true
+    → counts_fit other ≡ true → counts_fit (found_or (find (is_of opcode) sizes) other) ≡ true
 found_fits opcode [] other h k = k
 found_fits opcode (size ∷ sizes) other h k =
     let both = both-parts (counts_fit size.1) (all_fit sizes) h in
     by (is_of opcode size) both.0 (found_fits opcode sizes other both.1 k) where
-      by : (b : Bool) → counts_fit size.1 ≡ true → counts_fit (found_or (find (is_of opcode) sizes) other) ≡ true → counts_fit (found_or (cond b (Some size) (find (is_of opcode) sizes)) other) ≡ true
+      by : (b : Bool) → counts_fit size.1 ≡ true → counts_fit (found_or (find (is_of opcode) sizes) other) ≡ true
+          → counts_fit (found_or (cond b (Some size) (find (is_of opcode) sizes)) other) ≡ true
       by true e f = e
       by false e f = f
 
 rule_fits : (row : Row) (rule : SizeRule) → others_fit rule ≡ true → IfSome (size_at row rule) IsSize
 rule_fits row (Always count) h = count_fits row count h
 rule_fits row (ByOpcode list other) h =
-    count_fits row (found_or (find (is_of row.entry.opcode) (sizes list)) other) (found_fits row.entry.opcode (sizes list) other (in_lists list) h)
+    count_fits row (found_or (find (is_of row.entry.opcode) (sizes list)) other)
+    (found_fits row.entry.opcode (sizes list) other (in_lists list) h)
 
 -- the size of every row is one
 pub size_fits : (row : Row) → IfSome (size_of row) IsSize
 unfolding size_of
 size_fits row = by (is_memory row.kind) where
-  by : (b : Bool) → IfSome (if b then size_at row (form_row row.entry.form).size else bytes_at row (form_row row.entry.form).register_size) IsSize
+  by : (b : Bool) → IfSome (if b then size_at row (form_row row.entry.form).size else bytes_at row
+      (form_row row.entry.form).register_size) IsSize
   by true = rule_fits row (form_row row.entry.form).size (in_memory row.entry.form)
   by false = count_fits row (form_row row.entry.form).register_size (in_registers row.entry.form)
 
 -- the size that is made of a number within them is that number
-pub size_made : (n : ℕ) (size : Option ℕ) → (IsSome size ↔ ((1 ≤ n) × (n ≤ 64))) → IfSome size (λ made. made ≡ n) → IsSize n → size ≡ Some n
+pub size_made : (n : ℕ) (size : Option ℕ) → (IsSome size ↔ ((1 ≤ n) × (n ≤ 64))) → IfSome size (λ made. made ≡ n)
+    → IsSize n → size ≡ Some n
 size_made n None within value fits = let there = within.1 fits in cc
 size_made n (Some made) within value fits = ap Some value

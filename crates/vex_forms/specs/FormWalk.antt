@@ -1,5 +1,6 @@
 pub mod Lemmas
-use Rattle.std.specs.Prelude.{ℕ, ◌-◌, ◌/◌, ◌%◌, Bool, true, ◌&&◌, ◌==◌, List, [], ◌∷◌, length, Option, Some, None, Ok, Err, if◌then◌else◌}
+use Rattle.std.specs.Prelude.{ℕ, ◌-◌, ◌/◌, ◌%◌, Bool, true, ◌&&◌, ◌==◌, List, [], ◌∷◌, length, Option, Some, None, Ok}
+use Rattle.std.specs.Prelude.{Err, if◌then◌else◌}
 use Rattle.x86_operand.specs.declared.error.DecodeError.{DecodeError}
 use Rattle.x86_operand.specs.declared.error.DecodeError.TheVariants.{InvalidOpcode, InvalidOperand}
 use Rattle.x86_operand.specs.Kind.{Kind, WithoutModRM, InRegister, memory_kind}
@@ -34,8 +35,8 @@ check_all entry f kind reg [] bytes = Ok (tt, bytes)
 check_all entry f kind reg (c ∷ cs) bytes =
     if passes entry f kind reg c then check_all entry f kind reg cs bytes else Err (refusal c, bytes)
 
--- the kind of operand that the fields mod and rm say: where a form gathers, the index of an address with SIB is a vector
--- register (Intel SDM volume 2, sections 2.1.3 and 2.3.12)
+-- the kind of operand that the fields mod and rm say: where a form gathers, the index of an address with SIB is a
+-- vector register (Intel SDM volume 2, sections 2.1.3 and 2.3.12)
 abbrev pub kind_of_modrm : Bool → ℕ → ℕ → Kind
 kind_of_modrm vector mode rm = if mode == 3 then InRegister else memory_kind (vector && rm == 4)
 
@@ -78,7 +79,8 @@ walk_alone form bytes = do
 unfoldable pub walk_form : Entry → Fields → List ℕ → Reading Operands
 walk_form entry f bytes = do
   first ← check_all entry f WithoutModRM 0 (steps entry.form).before_modrm bytes
-  if (steps entry.form).modrm then walk_modrm entry f (steps entry.form) first.1 else walk_alone (steps entry.form) first.1
+  if (steps entry.form).modrm then walk_modrm entry f (steps entry.form) first.1 else walk_alone (steps entry.form)
+      first.1
 
 -- the row that an entry, the prefix fields, the kind of E and the reg field choose
 abbrev pub row_of : Entry → Fields → Operands → Row

@@ -15,7 +15,8 @@ use Rattle.vex_forms.specs.Slots.{slots, index_bank, size_of, v_rule}
 -- the kind of the operand E: memory, whose index is a vector register where the form gathers, or a register, and that
 -- without ModRM where the form has none
 abbrev pub kind_for : Form → Bool → Kind
-kind_for form memory = if (steps form).modrm then (if memory then memory_kind (gathers form) else InRegister) else WithoutModRM
+kind_for form memory = if (steps form).modrm then (if memory then memory_kind (gathers form) else InRegister) else
+    WithoutModRM
 
 -- the reg field of a row, where its form has groups
 abbrev pub group_for : Form → ℕ → Option ℕ

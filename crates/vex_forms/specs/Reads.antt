@@ -58,7 +58,8 @@ pub record IsOperands (prefix : Prefix) (operands : Operands) (fields : OperandF
 
 -- the instruction means what the row that was chosen gives, and its length is 0
 pub record IsInstruction (entry : Entry) (f : Fields) (operands : Operands) (instruction : Decoded) : Type 0 where
-  pub meaning : instruction.meaning ≡ gives (row_of entry f operands) f.r f.v operands.reg (target (is_vector operands.kind) operands.place f.x f.b) operands.imm
+  pub meaning : instruction.meaning ≡ gives (row_of entry f operands) f.r f.v operands.reg
+      (target (is_vector operands.kind) operands.place f.x f.b) operands.imm
   pub length : instruction.len ≡ 0
 
 -- the reader gave at most seven bytes, over which no step of the form fails: those of the operands in a spelling by the

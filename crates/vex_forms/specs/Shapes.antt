@@ -22,7 +22,8 @@ use Rattle.vex_forms.specs.Slots.{element_bank, gather_bank, size_at}
 
 -- the shape of the rows of a form at a W, an L and a place of the operand E: in memory or not
 unfoldable pub shape_of : Form → Bool → Bool → Bool → RowShape
-shape_of form w l memory = slice_index_or SHAPES (8 * tag_of the_type form + 4 * bit w + 2 * bit l + bit memory) NO_SHAPE
+shape_of form w l memory = slice_index_or SHAPES (8 * tag_of the_type form + 4 * bit w + 2 * bit l + bit memory)
+    NO_SHAPE
 
 -- a slot of the operand E in that bank, and the others as they are
 abbrev pub with_e_in : RegisterBank → Slot → Slot

@@ -1,5 +1,6 @@
 pub mod Lemmas
-use Rattle.std.specs.Prelude.{ℕ, Bool, true, false, ◌==◌, ◌||◌, List, [], ◌∷◌, find, flat_map, Option, Some, None, if◌then◌else◌}
+use Rattle.std.specs.Prelude.{ℕ, Bool, true, false, ◌==◌, ◌||◌, List, [], ◌∷◌, find, flat_map, Option, Some, None}
+use Rattle.std.specs.Prelude.{if◌then◌else◌}
 use Rattle.std.specs.List.{list_any}
 use Rattle.x86_opcode.specs.declared.Opcode.{Opcode}
 use Rattle.x86_opcode.specs.declared.Opcode.TheVariants.{Float, Integer}
@@ -149,5 +150,6 @@ demands_v kind _ = false
 unfoldable pub v_rule : Row → VvvvRule
 v_rule row =
     if list_any names_v (slots row) then Named
-    else if list_any (demands_v row.kind) (steps row.entry.form).before_modrm || list_any (demands_v row.kind) (steps row.entry.form).after_address
+    else if list_any (demands_v row.kind) (steps row.entry.form).before_modrm || list_any (demands_v row.kind)
+    (steps row.entry.form).after_address
     then Zero else Free

@@ -18,12 +18,14 @@ abbrev pub is_sound : Form → Row → Bool
 is_sound form row =
     nat_le (immediates (slots_of form row)) (if (steps form).imm then 1 else 0)
     && not (list_any names_v (slots_of form row)
-    && (list_any (demands_v row.kind) (steps form).before_modrm || list_any (demands_v row.kind) (steps form).after_address))
+    && (list_any (demands_v row.kind) (steps form).before_modrm || list_any (demands_v row.kind)
+    (steps form).after_address))
     && ((steps form).modrm || not (list_any names_g (slots_of form row)))
 
 -- whether no field is named twice: at most one slot each names reg, vvvv and the operand E
 abbrev pub is_distinct : List Slot → Bool
-is_distinct slots = nat_le (count_by names_g slots) 1 && nat_le (count_by names_v slots) 1 && nat_le (count_by names_e slots) 1
+is_distinct slots = nat_le (count_by names_g slots) 1 && nat_le (count_by names_v slots) 1 && nat_le
+    (count_by names_e slots) 1
 
 -- whether the fields that slots name are free for them: with groups no slot names the field reg, which says the group,
 -- and without ModRM no slot names the operand E

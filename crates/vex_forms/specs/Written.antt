@@ -35,8 +35,8 @@ abbrev pub FitsImm : Bool → ℕ → Type 0
 FitsImm true imm = imm < 256
 FitsImm false imm = imm ≡ 0
 
--- the bytes are those of the operands in a spelling by the row that entry, prefix fields and operands choose: ModRM with
--- SIB and displacement, and the immediate byte
+-- the bytes are those of the operands in a spelling by the row that entry, prefix fields and operands choose: ModRM
+-- with SIB and displacement, and the immediate byte
 pub record WritesForm (entry : Entry) (f : Fields) (operands : Operands) (bytes : List ℕ) : Type 0 where
   pub is_row : IsRow (row_of entry f operands)
   pub reg : FitsReg (steps entry.form).modrm operands.reg
@@ -44,4 +44,5 @@ pub record WritesForm (entry : Entry) (f : Fields) (operands : Operands) (bytes 
   pub kind : IsOfKind operands.kind operands.place
   pub v : FitsRule (v_rule (row_of entry f operands)) f.v
   pub imm : FitsImm (has_imm (row_of entry f operands)) operands.imm
-  pub written : bytes ≡ place_bytes operands.reg operands.place ++ imm_bytes (has_imm (row_of entry f operands)) operands.imm
+  pub written : bytes ≡ place_bytes operands.reg operands.place
+      ++ imm_bytes (has_imm (row_of entry f operands)) operands.imm

@@ -5,7 +5,8 @@ ghost use Rattle.x86_operand.specs.Kind.{is_vector};
 ghost use Rattle.vex_rows.specs.FormRows.{form_row, gathers};
 ghost use Rattle.vex_rows.specs.Steps.{steps, steps_seen};
 ghost use Rattle.vex_rows.specs.Groups.{groups};
-ghost use Rattle.vex_rows.specs.Row.{exists, group_allowed, group_opcode, has_groups, has_imm, is_memory, is_memory_of, opcode_of};
+ghost use Rattle.vex_rows.specs.Row.{exists, group_allowed, group_opcode, has_groups, has_imm, is_memory, is_memory_of};
+ghost use Rattle.vex_rows.specs.Row.{opcode_of};
 ghost use Rattle.vex_forms.specs.Layout.{chosen, may_be, row_for, rules_allow};
 ghost use Rattle.vex_forms.specs.Shapes.{shape_of, size_in, slots_in};
 ghost use Rattle.vex_forms.specs.Slots.{size_of, slots, v_rule};
@@ -109,7 +110,8 @@ impl Choice {
         ensures is { result.now ≡ shape_of self.now.entry.form self.now.w self.now.l self.now.memory }
         ensures row { rules_allow self.now.entry self.now.w self.now.l ≡ true
             → (may_be self.now.entry self.now.memory && exists (chosen self.now))
-            ≡ (result.now.is_row && (not result.now.has_group || group_allowed self.now.entry.form (chosen self.now).l self.now.group)) }
+            ≡ (result.now.is_row && (not result.now.has_group || group_allowed self.now.entry.form (chosen self.now).l
+            self.now.group)) }
         ensures slots { slots_in result.now (chosen self.now).l self.now.entry.opcode ≡ slots (chosen self.now) }
         ensures vvvv { result.now.vvvv ≡ v_rule (chosen self.now) }
         ensures size { size_in result.now.size (chosen self.now) ≡ size_of (chosen self.now) }
@@ -143,7 +145,8 @@ impl Choice {
     #[tactic(auto, unfolding(vex_rows::specs::Groups::groups))]
     #[inline(always)]
     fn opcode_by_group(&self) -> Opcode
-        ensures { result ≡ group_opcode (groups self.now.entry.form (chosen self.now).l) self.now.group self.now.entry.opcode }
+        ensures { result ≡ group_opcode (groups self.now.entry.form (chosen self.now).l) self.now.group
+            self.now.entry.opcode }
     {
         match self.group {
             Some(reg) => self.form_row().group_opcode(reg, self.entry.opcode),
@@ -173,7 +176,8 @@ impl Choice {
         self.form_row().imm
     }
 
-    /// What the row asks of the field vvvv: it names an operand, or it is 0 since a check demands it, or it plays no part.
+    /// What the row asks of the field vvvv: it names an operand, or it is 0 since a check demands it, or it plays no
+    /// part.
     #[inline(always)]
     pub fn vvvv_rule(&self) -> VvvvRule
         ensures { result ≡ v_rule (chosen self.now) }

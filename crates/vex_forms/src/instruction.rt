@@ -31,7 +31,8 @@ fn write_parts(
         ≡ record {
           evex = false;
           opcode = opcode;
-          operands = map (slot_operand index_bank (bit fields.now.r) fields.now.vvvv fields.now.reg (target_seen fields.now.e) fields.now.imm) slots.now;
+          operands = map (slot_operand index_bank (bit fields.now.r) fields.now.vvvv fields.now.reg
+              (target_seen fields.now.e) fields.now.imm) slots.now;
           size = mem_size;
         } }
     ensures length { instruction.new.len ≡ 0 }
@@ -67,7 +68,8 @@ impl Choice {
     pub fn write_instruction(&self, fields: &OperandFields, instruction: &mut Instruction)
         requires { instruction.old ≡ blank }
         ensures meaning { instruction.new.meaning
-            ≡ gives (chosen self.now) (bit fields.now.r) fields.now.vvvv fields.now.reg (target_seen fields.now.e) fields.now.imm }
+            ≡ gives (chosen self.now) (bit fields.now.r) fields.now.vvvv fields.now.reg (target_seen fields.now.e)
+            fields.now.imm }
         ensures length { instruction.new.len ≡ 0 }
     {
         let slots = self.slots();

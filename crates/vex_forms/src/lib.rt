@@ -1,5 +1,5 @@
-//! The operand forms: which slot names which operand, and how large the memory operand is; and reading what the form of an
-//! entry asks for.
+//! The operand forms: which slot names which operand, and how large the memory operand is; and reading what the form of
+//! an entry asks for.
 //!
 //! ```
 //! use vex_forms::{Slot, layout};

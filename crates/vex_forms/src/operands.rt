@@ -1,5 +1,5 @@
-//! The operands that the slots of a row name, as they are added to an instruction. What is said of them holds where each
-//! bank has sixteen registers, as in every row.
+//! The operands that the slots of a row name, as they are added to an instruction. What is said of them holds where
+//! each bank has sixteen registers, as in every row.
 
 ghost use Rattle.std.specs.Prelude.{◌≡◌, ◌<◌, true, IfSome, IsSome};
 ghost use Rattle.x86_address.specs.Bytes.{bit};
@@ -53,7 +53,8 @@ fn add(operand: Operand, instruction: &mut Instruction)
 #[inline(always)]
 fn add_register(bank: RegisterBank, num: u8, instruction: &mut Instruction)
     requires { num < 16 }
-    ensures added { has_sixteen bank ≡ true → Adds (register (record { bank = bank; num = num })) instruction.old instruction.new }
+    ensures added { has_sixteen bank ≡ true
+        → Adds (register (record { bank = bank; num = num })) instruction.old instruction.new }
     ensures length { instruction.new.len ≡ instruction.old.len }
 {
     // The remainder is the number itself. By it the compiler knows the number to be in the banks of a row.
@@ -66,7 +67,8 @@ fn add_register(bank: RegisterBank, num: u8, instruction: &mut Instruction)
 #[inline(never)]
 fn add_memory(index_bank: RegisterBank, address: Address, instruction: &mut Instruction)
     requires { address ≡ in_banks Q (plain address) }
-    ensures added { has_sixteen index_bank ≡ true → Adds (memory (in_banks index_bank (plain address))) instruction.old instruction.new }
+    ensures added { has_sixteen index_bank ≡ true
+        → Adds (memory (in_banks index_bank (plain address))) instruction.old instruction.new }
     ensures length { instruction.new.len ≡ instruction.old.len }
 {
     let address = address_in(index_bank, address);
@@ -82,7 +84,8 @@ pub fn add_operand(
     instruction: &mut Instruction,
 )
     ensures added { slot_fits slot ≡ true → has_sixteen index_bank ≡ true
-        → Adds (slot_operand index_bank (bit fields.now.r) fields.now.vvvv fields.now.reg (target_seen fields.now.e) fields.now.imm slot) instruction.old instruction.new }
+        → Adds (slot_operand index_bank (bit fields.now.r) fields.now.vvvv fields.now.reg (target_seen fields.now.e)
+        fields.now.imm slot) instruction.old instruction.new }
     ensures length { instruction.new.len ≡ instruction.old.len }
 {
     match slot {

@@ -11,7 +11,8 @@ ghost use Rattle.vex_rows.specs.Table.{table};
 ghost use Rattle.vex_forms.specs.Fields.{fields_of};
 ghost use Rattle.vex_forms.specs.FormWalk.{place_by, take_imm, walk_alone, walk_form, walk_modrm};
 ghost use Rattle.vex_forms.specs.Operands.{blank, made};
-ghost use Rattle.vex_forms.specs.Reads.{FailsForm, HasPrefix, IsInstruction, IsOperandE, IsOperands, TakesForm, kind_of_e, kind_seen};
+ghost use Rattle.vex_forms.specs.Reads.{FailsForm, HasPrefix, IsInstruction, IsOperandE, IsOperands, TakesForm};
+ghost use Rattle.vex_forms.specs.Reads.{kind_of_e, kind_seen};
 
 use crate::checks::{Kind, do_checks};
 use crate::choice::Choice;
@@ -171,8 +172,8 @@ pub fn read_form_into<R: Reader>(
 ///
 /// The first step that fails gives the error: `InvalidOpcode` where the field reg is none of the form's groups,
 /// `InvalidOperand` where another check doesn't pass, and `ExhaustedInput` where the reader refuses a byte, which comes
-/// only where its count of refusals rose in this call or stands at its last value. No other error comes. Both numbers of
-/// the reader rise by the number of bytes taken, which is at most 7.
+/// only where its count of refusals rose in this call or stands at its last value. No other error comes. Both numbers
+/// of the reader rise by the number of bytes taken, which is at most 7.
 pub fn read_form<R: Reader>(
     entry: &Entry,
     prefix: &Prefix,
@@ -181,7 +182,8 @@ pub fn read_form<R: Reader>(
     requires listed { Among entry.now table }
     requires prefix { HasPrefix entry.now (fields_of prefix.now) }
     requires vvvv { prefix.now.vvvv < 16 }
-    ensures follows { Follows (walk_form entry.now (fields_of prefix.now)) (IsInstruction entry.now (fields_of prefix.now))
+    ensures follows { Follows (walk_form entry.now (fields_of prefix.now))
+        (IsInstruction entry.now (fields_of prefix.now))
         (R.state words.old) (R.state words.new) result }
 
     // No step fails over the bytes taken, and they are those of a spelling by the row that was chosen.
@@ -190,7 +192,8 @@ pub fn read_form<R: Reader>(
     // A step fails at the end of the bytes taken, with this error.
     ensures fails { IfErr result (FailsForm entry.now (fields_of prefix.now) (R.state words.old) (R.state words.new)) }
     ensures inside { IfErr result (λ error. error ≢ DecodeError.Outside) }
-    ensures slice { OverSlice (walk_form entry.now (fields_of prefix.now)) (IsInstruction entry.now (fields_of prefix.now))
+    ensures slice { OverSlice (walk_form entry.now (fields_of prefix.now))
+        (IsInstruction entry.now (fields_of prefix.now))
         (R.state words.old) (R.state words.new) result }
 {
     // By this law the bytes that were read are those that spell what was read.

@@ -3,7 +3,8 @@
 ghost use Rattle.std.specs.Prelude.{◌≡◌, [], ◌∷◌, take, if◌then◌else◌};
 ghost use Rattle.vex_forms.specs.Layout.{chosen};
 ghost use Rattle.vex_forms.specs.Shapes.{slots_seen};
-ghost use Rattle.vex_forms.specs.Slots.{element_bank, gather_bank, gather_index_bank, general, index_bank, slots, vector};
+ghost use Rattle.vex_forms.specs.Slots.{element_bank, gather_bank, gather_index_bank, general, index_bank, slots};
+ghost use Rattle.vex_forms.specs.Slots.{vector};
 
 use crate::choice::Choice;
 use crate::shape::{BanksByOpcode, RowShape, shape_at};

@@ -22,24 +22,34 @@ zeroupper = record { evex = false; opcode = Integer VZEROUPPER; operands = []; s
 
 -- the first and the last spelling of a meaning
 first : is_spelling zeroupper (0xC4 ∷ 0x01 ∷ 0x78 ∷ 0x77 ∷ []) ≡ true
-unfolding zeroupper is_spelling walk walk_form entry_of has_key table steps form_row groups has_groups mark_of opcode_of has_imm exists slots index_bank gathers size_of sizes v_rule gives same_meaning same_operands same_opcode opcode_number
+unfolding zeroupper is_spelling walk walk_form entry_of has_key table steps form_row groups has_groups mark_of
+    opcode_of has_imm exists slots index_bank gathers size_of sizes v_rule gives same_meaning same_operands same_opcode
+    opcode_number
 first = refl
 
 last : is_spelling zeroupper (0xC5 ∷ 0xF8 ∷ 0x77 ∷ []) ≡ true
-unfolding zeroupper is_spelling walk walk_form entry_of has_key table steps form_row groups has_groups mark_of opcode_of has_imm exists slots index_bank gathers size_of sizes v_rule gives same_meaning same_operands same_opcode opcode_number
+unfolding zeroupper is_spelling walk walk_form entry_of has_key table steps form_row groups has_groups mark_of
+    opcode_of has_imm exists slots index_bank gathers size_of sizes v_rule gives same_meaning same_operands same_opcode
+    opcode_number
 last = refl
 
 -- a spelling and a byte more, one of another meaning, and a refused string are none
 longer : is_spelling zeroupper (0xC5 ∷ 0xF8 ∷ 0x77 ∷ 0x00 ∷ []) ≡ false
-unfolding zeroupper is_spelling walk walk_form entry_of has_key table steps form_row groups has_groups mark_of opcode_of has_imm exists slots index_bank gathers size_of sizes v_rule gives same_meaning same_operands same_opcode opcode_number
+unfolding zeroupper is_spelling walk walk_form entry_of has_key table steps form_row groups has_groups mark_of
+    opcode_of has_imm exists slots index_bank gathers size_of sizes v_rule gives same_meaning same_operands same_opcode
+    opcode_number
 longer = refl
 
 zeroall : is_spelling zeroupper (0xC5 ∷ 0xFC ∷ 0x77 ∷ []) ≡ false
-unfolding zeroupper is_spelling walk walk_form entry_of has_key table steps form_row groups has_groups mark_of opcode_of has_imm exists slots index_bank gathers size_of sizes v_rule gives same_meaning same_operands same_opcode opcode_number
+unfolding zeroupper is_spelling walk walk_form entry_of has_key table steps form_row groups has_groups mark_of
+    opcode_of has_imm exists slots index_bank gathers size_of sizes v_rule gives same_meaning same_operands same_opcode
+    opcode_number
 zeroall = refl
 
 refused : is_spelling zeroupper (0xC5 ∷ 0xF0 ∷ 0x77 ∷ []) ≡ false
-unfolding zeroupper is_spelling walk walk_form entry_of has_key table steps form_row groups has_groups mark_of opcode_of has_imm exists slots index_bank gathers size_of sizes v_rule gives same_meaning same_operands same_opcode opcode_number
+unfolding zeroupper is_spelling walk walk_form entry_of has_key table steps form_row groups has_groups mark_of
+    opcode_of has_imm exists slots index_bank gathers size_of sizes v_rule gives same_meaning same_operands same_opcode
+    opcode_number
 refused = refl
 
 -- the empty string, then each byte, alone and then before each byte

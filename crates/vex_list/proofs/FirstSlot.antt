@@ -1,5 +1,6 @@
 -- The search for the first slot of a kind, place by place.
-use Rattle.std.specs.Prelude.{◌≡◌, refl, ℕ, ◌+◌, ◌<◌, ◌≤◌, Bool, true, false, List, [], ◌∷◌, length, drop, slice_index_or, if◌then◌else◌}
+use Rattle.std.specs.Prelude.{◌≡◌, refl, ℕ, ◌+◌, ◌<◌, ◌≤◌, Bool, true, false, List, [], ◌∷◌, length, drop}
+use Rattle.std.specs.Prelude.{slice_index_or, if◌then◌else◌}
 use Rattle.std.proofs.Common.{zero, suc, arith, sym, ◌∙◌, get_or, add-one}
 use Rattle.x86_operand.specs.Meaning.{OperandMeaning, nothing}
 use Rattle.vex_forms.specs.declared.slot.Slot.{Slot}
@@ -18,7 +19,9 @@ chosen_later true x y h = cc
 chosen_later false x y h = refl
 
 -- at a slot that is of the kind, the operand there
-pub found_at : (is : Slot → Bool) (slots : List Slot) (operands : List OperandMeaning) (i : ℕ) (s : Slot) → i < length slots → is (get_or slots i s) ≡ true → operand_of_kind is (drop i slots) (drop i operands) ≡ slice_index_or operands i nothing
+pub found_at : (is : Slot → Bool) (slots : List Slot) (operands : List OperandMeaning) (i : ℕ) (s : Slot)
+    → i < length slots → is (get_or slots i s) ≡ true
+    → operand_of_kind is (drop i slots) (drop i operands) ≡ slice_index_or operands i nothing
 found_at is [] operands i s h k = absurd (omega arith)
 found_at is (x ∷ slots) [] zero s h k = refl
 found_at is (x ∷ slots) (o ∷ operands) zero s h k = chosen_first (is x) o (operand_of_kind is slots operands) k
@@ -26,15 +29,21 @@ found_at is (x ∷ slots) [] (suc i) s h k = no_operands is (drop i slots)
 found_at is (x ∷ slots) (o ∷ operands) (suc i) s h k = found_at is slots operands i s (omega arith) k
 
 -- at a slot that isn't, the search goes on
-pub later_at : (is : Slot → Bool) (slots : List Slot) (operands : List OperandMeaning) (i : ℕ) (s : Slot) → i < length slots → is (get_or slots i s) ≡ false → operand_of_kind is (drop i slots) (drop i operands) ≡ operand_of_kind is (drop (i + 1) slots) (drop (i + 1) operands)
+pub later_at : (is : Slot → Bool) (slots : List Slot) (operands : List OperandMeaning) (i : ℕ) (s : Slot)
+    → i < length slots → is (get_or slots i s) ≡ false
+    → operand_of_kind is (drop i slots) (drop i operands)
+    ≡ operand_of_kind is (drop (i + 1) slots) (drop (i + 1) operands)
 later_at is [] operands i s h k = absurd (omega arith)
 later_at is (x ∷ slots) [] zero s h k = sym (no_operands is slots)
 later_at is (x ∷ slots) (o ∷ operands) zero s h k = chosen_later (is x) o (operand_of_kind is slots operands) k
-later_at is (x ∷ slots) [] (suc i) s h k = no_operands is (drop i slots) ∙ rw add-one (sym (no_operands is (drop (suc i) slots)))
-later_at is (x ∷ slots) (o ∷ operands) (suc i) s h k = rw add-one (later_at is slots operands i s (omega arith) k ∙ rw add-one refl)
+later_at is (x ∷ slots) [] (suc i) s h k =
+    no_operands is (drop i slots) ∙ rw add-one (sym (no_operands is (drop (suc i) slots)))
+later_at is (x ∷ slots) (o ∷ operands) (suc i) s h k =
+    rw add-one (later_at is slots operands i s (omega arith) k ∙ rw add-one refl)
 
 -- past the last slot there is no operand
-pub none_at : (is : Slot → Bool) (slots : List Slot) (operands : List OperandMeaning) (i : ℕ) → length slots ≤ i → operand_of_kind is (drop i slots) (drop i operands) ≡ nothing
+pub none_at : (is : Slot → Bool) (slots : List Slot) (operands : List OperandMeaning) (i : ℕ) → length slots ≤ i
+    → operand_of_kind is (drop i slots) (drop i operands) ≡ nothing
 none_at is [] operands zero h = refl
 none_at is [] operands (suc i) h = refl
 none_at is (x ∷ slots) operands zero h = absurd (omega arith)

@@ -17,7 +17,8 @@ is_full form row =
     && (not (steps form).modrm || has_groups form || list_any names_g (slots_of form row))
     && (not (steps form).imm || list_any names_imm (slots_of form row))
 
-by_kind : (test : Kind → Bool) → test WithoutModRM ≡ true → test InRegister ≡ true → test InMemory ≡ true → test VectorIndexed ≡ true → (kind : Kind) → test kind ≡ true
+by_kind : (test : Kind → Bool) → test WithoutModRM ≡ true → test InRegister ≡ true → test InMemory ≡ true
+    → test VectorIndexed ≡ true → (kind : Kind) → test kind ≡ true
 by_kind test a b c d WithoutModRM = a
 by_kind test a b c d InRegister = b
 by_kind test a b c d InMemory = c
@@ -44,11 +45,13 @@ full_vector Nothing row = refl
 full_vector _ row = refl
 
 full : (form : Form) (row : Row) → is_full form row ≡ true
-full form row = by_kind (λ kind. is_full form (row_at row.entry row.w row.l kind row.group)) (full_without form row) (full_register form row) (full_memory form row) (full_vector form row) row.kind
+full form row = by_kind (λ kind. is_full form (row_at row.entry row.w row.l kind row.group)) (full_without form row)
+    (full_register form row) (full_memory form row) (full_vector form row) row.kind
 
 pub record Full (row : Row) : Type 0 where
   pub e : (not (steps row.entry.form).modrm || list_any names_e (slots_of row.entry.form row)) ≡ true
-  pub g : (not (steps row.entry.form).modrm || has_groups row.entry.form || list_any names_g (slots_of row.entry.form row)) ≡ true
+  pub g : (not (steps row.entry.form).modrm || has_groups row.entry.form || list_any names_g
+      (slots_of row.entry.form row)) ≡ true
   pub imm : (not (steps row.entry.form).imm || list_any names_imm (slots_of row.entry.form row)) ≡ true
 
 pub full_row : (row : Row) → Full row

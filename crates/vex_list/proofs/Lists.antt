@@ -1,5 +1,6 @@
 -- The order of byte strings, and covering one set after another.
-use Rattle.std.specs.Prelude.{◌≡◌, refl, ◌↔◌, IsTrue, not, ◌⊎◌, ℕ, ◌+◌, ◌<◌, ◌≤◌, Bool, true, false, List, Option, Some, None, IsSome, IfSome}
+use Rattle.std.specs.Prelude.{◌≡◌, refl, ◌↔◌, IsTrue, not, ◌⊎◌, ℕ, ◌+◌, ◌<◌, ◌≤◌, Bool, true, false, List, Option, Some}
+use Rattle.std.specs.Prelude.{None, IsSome, IfSome}
 use Rattle.std.specs.Ordering.{ordering_reverse, nat_cmp, is_lt, is_gt}
 use Rattle.std.proofs.Common.{Ordering, Less, Equal, Greater}
 use Rattle.std.proofs.Math.Nat.{eq-or-lt_of_le}
@@ -69,7 +70,8 @@ pub cover_same : (m : Meaning) (previous : List ℕ) (bytes : List ℕ) (old : O
 cover_same m previous bytes old h = record {
   later = λ l. l;
   kept = λ b l. l;
-  covers = λ b e spells before. subst (AtMost old) (sym e) (h (subst (λ b. Spells b m) e spells) (subst (Before previous) e before));
+  covers = λ b e spells before. subst (AtMost old) (sym e)
+      (h (subst (λ b. Spells b m) e spells) (subst (Before previous) e before));
 }
 
 at_most_up : (old : Option (List ℕ)) (c b : List ℕ) → (AtMost old c → ⊥) → AtMost old b → UpTo c b
@@ -81,7 +83,8 @@ at_most_up (Some d) c b h l = up_chain c d b (before_up c d (by (is_lt (slice_cm
 
 -- it becomes the bytes where they are nearer
 pub cover_new : (m : Meaning) (previous : List ℕ) (bytes : List ℕ) (old : Option (List ℕ)) →
-    Spells bytes m → Before previous bytes → (AtMost old bytes → ⊥) → Covers m previous (λ b. b ≡ bytes) old (Some bytes)
+    Spells bytes m → Before previous bytes → (AtMost old bytes → ⊥)
+    → Covers m previous (λ b. b ≡ bytes) old (Some bytes)
 cover_new m previous bytes old spells before nearer = record {
   later = λ l. (spells, before);
   kept = λ b l. at_most_up old bytes b nearer l;
@@ -90,30 +93,40 @@ cover_new m previous bytes old spells before nearer = record {
 
 module _ (m : Meaning) (previous : List ℕ) where
   -- over fewer strings
-  pub cover_fewer : (over fewer : List ℕ → Type 0) (a b : Option (List ℕ)) → ((s : List ℕ) → fewer s → over s) → Covers m previous over a b → Covers m previous fewer a b
+  pub cover_fewer : (over fewer : List ℕ → Type 0) (a b : Option (List ℕ)) → ((s : List ℕ) → fewer s → over s)
+      → Covers m previous over a b → Covers m previous fewer a b
   cover_fewer over fewer a b h c = record { later = c.later; kept = c.kept; covers = λ s t. c.covers s (h s t) }
 
   -- over the one set and then the other
-  pub cover_either : (over others : List ℕ → Type 0) (a b c : Option (List ℕ)) → Covers m previous over a b → Covers m previous others b c → Covers m previous (Either over others) a c
+  pub cover_either : (over others : List ℕ → Type 0) (a b c : Option (List ℕ)) → Covers m previous over a b
+      → Covers m previous others b c → Covers m previous (Either over others) a c
   cover_either over others a b c p q = record {
     later = λ l. q.later (p.later l);
     kept = λ s l. q.kept s (p.kept s l);
-    covers = λ s e spells before. elim e [ inl t ↦ q.kept s (p.covers s t spells before) | inr t ↦ q.covers s t spells before ];
+    covers = λ s e spells before. elim e [
+      | inl t ↦ q.kept s (p.covers s t spells before)
+      | inr t ↦ q.covers s t spells
+          before
+    ];
   }
 
   -- over the sets of both bits
-  pub cover_bits : (over : Bool → List ℕ → Type 0) (a b c : Option (List ℕ)) → Covers m previous (over false) a b → Covers m previous (over true) b c → Covers m previous (ByBit over) a c
-  cover_bits over a b c p q = cover_fewer (Either (over false) (over true)) (ByBit over) a c (λ s t. by t.0 t.1) (cover_either (over false) (over true) a b c p q) where
-    by : {s : List ℕ} (bit : Bool) → over bit s → Either (over false) (over true) s
-    by false t = inl t
-    by true t = inr t
+  pub cover_bits : (over : Bool → List ℕ → Type 0) (a b c : Option (List ℕ)) → Covers m previous (over false) a b
+      → Covers m previous (over true) b c → Covers m previous (ByBit over) a c
+  cover_bits over a b c p q = cover_fewer (Either (over false) (over true)) (ByBit over) a c (λ s t. by t.0 t.1)
+      (cover_either (over false) (over true) a b c p q) where
+        by : {s : List ℕ} (bit : Bool) → over bit s → Either (over false) (over true) s
+        by false t = inl t
+        by true t = inr t
 
   -- over no string
-  pub cover_empty : (over : List ℕ → Type 0) (a : Option (List ℕ)) → ((b : List ℕ) → over b → ⊥) → Covers m previous over a a
+  pub cover_empty : (over : List ℕ → Type 0) (a : Option (List ℕ)) → ((b : List ℕ) → over b → ⊥)
+      → Covers m previous over a a
   cover_empty over a none = record { later = λ k. k; kept = λ b k. k; covers = λ b t. absurd (none b t) }
 
   -- over no number
-  pub cover_none : (first : ℕ) (over : ℕ → List ℕ → Type 0) (a : Option (List ℕ)) → Covers m previous (Between first first over) a a
+  pub cover_none : (first : ℕ) (over : ℕ → List ℕ → Type 0) (a : Option (List ℕ))
+      → Covers m previous (Between first first over) a a
   cover_none first over a = record {
     later = λ l. l;
     kept = λ b l. l;
@@ -121,11 +134,15 @@ module _ (m : Meaning) (previous : List ℕ) where
   }
 
   -- over one more number
-  pub cover_more : (first end : ℕ) (over : ℕ → List ℕ → Type 0) (a b c : Option (List ℕ)) → Covers m previous (Between first end over) a b → Covers m previous (over end) b c → Covers m previous (Between first (end + 1) over) a c
+  pub cover_more : (first end : ℕ) (over : ℕ → List ℕ → Type 0) (a b c : Option (List ℕ))
+      → Covers m previous (Between first end over) a b → Covers m previous (over end) b c
+      → Covers m previous (Between first (end + 1) over) a c
   cover_more first end over a b c p q =
-      cover_fewer (Either (Between first end over) (over end)) (Between first (end + 1) over) a c (λ s t. by s t) (cover_either (Between first end over) (over end) a b c p q)
+      cover_fewer (Either (Between first end over) (over end)) (Between first (end + 1) over) a c (λ s t. by s t)
+      (cover_either (Between first end over) (over end) a b c p q)
     where
-      at : (s : List ℕ) (i : ℕ) → first ≤ i → over i s → (i ≡ end) ⊎ (i < end) → Either (Between first end over) (over end) s
+      at : (s : List ℕ) (i : ℕ) → first ≤ i → over i s → (i ≡ end) ⊎ (i < end)
+          → Either (Between first end over) (over end) s
       at s i from t (inr l) = inl (i, from, l, t)
       at s i from t (inl e) = inr (subst (λ i. over i s) e t)
 
@@ -133,5 +150,6 @@ module _ (m : Meaning) (previous : List ℕ) where
       by s t = at s t.0 t.1 t.3 (eq-or-lt_of_le (omega (arith, t.2)))
 
   -- to the end of the numbers
-  pub cover_to : (first i end : ℕ) (over : ℕ → List ℕ → Type 0) (a b : Option (List ℕ)) → i ≡ end → Covers m previous (Between first i over) a b → Covers m previous (Between first end over) a b
+  pub cover_to : (first i end : ℕ) (over : ℕ → List ℕ → Type 0) (a b : Option (List ℕ)) → i ≡ end
+      → Covers m previous (Between first i over) a b → Covers m previous (Between first end over) a b
   cover_to first i end over a b e c = subst (λ n. Covers m previous (Between first n over) a b) e c

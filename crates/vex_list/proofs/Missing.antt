@@ -1,5 +1,6 @@
 -- Whatever parts of a row mean a meaning are made by some open choice.
-use Rattle.std.specs.Prelude.{◌≡◌, refl, ◌⊎◌, ℕ, zero, suc, ◌+◌, ◌-◌, ◌*◌, ◌%◌, ◌<◌, ◌≤◌, ◌==◌, Bool, true, false, not, ◌||◌, List, [], ◌∷◌, map, Option, Some, None, if◌then◌else◌}
+use Rattle.std.specs.Prelude.{◌≡◌, refl, ◌⊎◌, ℕ, zero, suc, ◌+◌, ◌-◌, ◌*◌, ◌%◌, ◌<◌, ◌≤◌, ◌==◌, Bool, true, false, not}
+use Rattle.std.specs.Prelude.{◌||◌, List, [], ◌∷◌, map, Option, Some, None, if◌then◌else◌}
 use Rattle.std.specs.Int.{cast_signed, cast_unsigned, w8}
 use Rattle.std.specs.List.{list_any}
 use Rattle.std.proofs.Common.{arith, ap, sym, ◌∙◌, inl, inr, subst}
@@ -9,7 +10,8 @@ use Rattle.x86_operand.specs.declared.register.RegisterBank.{RegisterBank}
 use Rattle.x86_operand.specs.Kind.{Kind, WithoutModRM, InRegister, is_vector, plain_kind, memory_kind}
 use Rattle.x86_operand.specs.Meaning.{OperandMeaning, nothing, Meaning}
 use Rattle.x86_address.specs.Bytes.{bit}
-use Rattle.x86_address.specs.Place.{Place, NoPlace, Direct, Based, RipBased, Scaled, Baseless, kind_of, Target, NoTarget, Number, At, kind_of_target, target}
+use Rattle.x86_address.specs.Place.{Place, NoPlace, Direct, Based, RipBased, Scaled, Baseless, kind_of, Target}
+use Rattle.x86_address.specs.Place.{NoTarget, Number, At, kind_of_target, target}
 use Rattle.x86_address.specs.Shortest.{is_upper}
 use Rattle.x86_address.specs.Shortest.Lemmas.{kind_of_target-target, plain-in_banks, is_upper-field}
 use Rattle.vex_rows.specs.FormRows.{gathers}
@@ -29,7 +31,8 @@ use Rattle.vex_encode.specs.Standard.{operand_of_kind, number_of, imm_of, target
 use Rattle.vex_list.specs.declared.choices.PrefixForm as code
 use Rattle.vex_list.specs.declared.choices.PrefixForm.TheVariants.{TwoBytes, ThreeBytes}
 use Rattle.vex_list.specs.declared.choices.Choices.{Choices}
-use Rattle.vex_list.specs.Choices.{made, chosen_fields, imm_operand, place_with, FormFits, Allows, r_fixed, x_fixed, b_fixed, v_fixed, lows_of, prefix_form}
+use Rattle.vex_list.specs.Choices.{made, chosen_fields, imm_operand, place_with, FormFits, Allows, r_fixed, x_fixed}
+use Rattle.vex_list.specs.Choices.{b_fixed, v_fixed, lows_of, prefix_form}
 use Rattle.vex_list.specs.Laws.{IsMade}
 use Rattle.vex_list.proofs.Full.{full_row}
 use Rattle.vex_list.proofs.Places.{form_of, place_again, form_fits, is_address_form, x_allowed, b_allowed}
@@ -43,19 +46,24 @@ record First (is : Slot → Bool) (f : Slot → OperandMeaning) (slots : List Sl
   operand : operand_of_kind is slots (map f slots) ≡ f slot
 
 -- there is such a slot, or no operand
-first_or_none : (is : Slot → Bool) (f : Slot → OperandMeaning) (slots : List Slot) → First is f slots ⊎ ((operand_of_kind is slots (map f slots) ≡ nothing) × (list_any is slots ≡ false))
+first_or_none : (is : Slot → Bool) (f : Slot → OperandMeaning) (slots : List Slot)
+    → First is f slots ⊎ ((operand_of_kind is slots (map f slots) ≡ nothing) × (list_any is slots ≡ false))
 first_or_none is f [] = inr (refl, refl)
 first_or_none is f (s ∷ slots) = by (is s) refl (first_or_none is f slots) where
-  by : (b : Bool) → is s ≡ b → First is f slots ⊎ ((operand_of_kind is slots (map f slots) ≡ nothing) × (list_any is slots ≡ false)) → First is f (s ∷ slots) ⊎ ((operand_of_kind is (s ∷ slots) (map f (s ∷ slots)) ≡ nothing) × (list_any is (s ∷ slots) ≡ false))
+  by : (b : Bool) → is s ≡ b → First is f slots
+      ⊎ ((operand_of_kind is slots (map f slots) ≡ nothing) × (list_any is slots ≡ false))
+      → First is f (s ∷ slots) ⊎ ((operand_of_kind is (s ∷ slots) (map f (s ∷ slots)) ≡ nothing)
+      × (list_any is (s ∷ slots) ≡ false))
   by true e next = inl (record { slot = s; passes = e; operand = rw e refl })
   by false e (inl later) = inl (record { slot = later.slot; passes = later.passes; operand = rw e later.operand })
   by false e (inr none) = inr (rw e none.0, rw e none.1)
 
 -- a slot that is there is found
 found : (is : Slot → Bool) (f : Slot → OperandMeaning) (slots : List Slot) → list_any is slots ≡ true → First is f slots
-found is f slots h = elim (first_or_none is f slots) [ inl first ↦ first | inr none ↦ absurd (no (list_any is slots) h none.1) ] where
-  no : (b : Bool) → b ≡ true → b ≡ false → ⊥
-  no b h k = cc
+found is f slots h = elim (first_or_none is f slots)
+    [ inl first ↦ first | inr none ↦ absurd (no (list_any is slots) h none.1) ] where
+      no : (b : Bool) → b ≡ true → b ≡ false → ⊥
+      no b h k = cc
 
 -- ---- what a slot of each kind says
 
@@ -81,7 +89,8 @@ module _ (index_bank : RegisterBank) (r v reg : ℕ) (e : Target) (imm : ℕ) wh
   e_operand bank (Number n) = refl
   e_operand bank (At a) = ap At (plain-in_banks index_bank a)
 
-  e_slot : (slot : Slot) → names_e slot ≡ true → target_of (kind_of_target e) (slot_operand index_bank r v reg e imm slot) ≡ e
+  e_slot : (slot : Slot) → names_e slot ≡ true
+      → target_of (kind_of_target e) (slot_operand index_bank r v reg e imm slot) ≡ e
   e_slot (E bank) h = e_operand bank e
   e_slot (G bank) h = cc
   e_slot (V bank) h = cc
@@ -93,7 +102,9 @@ module _ (index_bank : RegisterBank) (r v reg : ℕ) (e : Target) (imm : ℕ) wh
   signed_again h = let e : cast_unsigned w8 (cast_signed w8 imm) ≡ imm = of_z-to_z w8 imm h in rw e (omega arith)
 
   imm_slot : (slot : Slot) → imm < 256 → names_imm slot ≡ true →
-      (imm_of (slot_operand index_bank r v reg e imm slot) ≤ imm) × (imm < imm_of (slot_operand index_bank r v reg e imm slot) + lows_of (slot_operand index_bank r v reg e imm slot))
+      (imm_of (slot_operand index_bank r v reg e imm slot) ≤ imm)
+      × (imm < imm_of (slot_operand index_bank r v reg e imm slot)
+      + lows_of (slot_operand index_bank r v reg e imm slot))
   imm_slot U8 l h = (omega arith, omega arith)
   imm_slot I8 l h = let again = signed_again l in (omega (arith, again), omega (arith, again))
   imm_slot (R4 bank) l h = (omega arith, omega arith)
@@ -123,13 +134,16 @@ no_place (Scaled k i j d) h = cc
 no_place (Baseless k i n) h = cc
 
 -- a kind other than that has ModRM
-with_modrm : (vector modrm : Bool) (kind : Kind) → Among kind (if modrm then InRegister ∷ memory_kind vector ∷ [] else WithoutModRM ∷ []) → (kind ≡ WithoutModRM) ⊎ (modrm ≡ true)
+with_modrm : (vector modrm : Bool) (kind : Kind)
+    → Among kind (if modrm then InRegister ∷ memory_kind vector ∷ [] else WithoutModRM ∷ [])
+    → (kind ≡ WithoutModRM) ⊎ (modrm ≡ true)
 with_modrm vector true kind m = inr refl
 with_modrm vector false kind (inl e) = inl e
 with_modrm vector false kind (inr e) = absurd e
 
 -- a row with no group field has no groups
-not_grouped : (has : Bool) (gs : List (ℕ × Opcode)) → Among None (if has then map (λ g. Some g.0) gs else None ∷ []) → has ≡ false
+not_grouped : (has : Bool) (gs : List (ℕ × Opcode)) → Among None (if has then map (λ g. Some g.0) gs else None ∷ [])
+    → has ≡ false
 not_grouped false gs m = refl
 not_grouped true gs m = absurd (none gs m) where
   none : (gs : List (ℕ × Opcode)) → Among None (map (λ g. Some g.0) gs) → ⊥
@@ -138,7 +152,8 @@ not_grouped true gs m = absurd (none gs m) where
   none (g ∷ gs) (inr m) = none gs m
 
 -- the reg field is the group, or what the slot G says
-reg_again : (group : Option ℕ) (reg r g : ℕ) → FitsGroup group reg → reg < 8 → (group ≡ None → (g ≡ reg + 8 * r) ⊎ ((g ≡ 0) × (reg ≡ 0))) → reg_for group g ≡ reg
+reg_again : (group : Option ℕ) (reg r g : ℕ) → FitsGroup group reg → reg < 8
+    → (group ≡ None → (g ≡ reg + 8 * r) ⊎ ((g ≡ 0) × (reg ≡ 0))) → reg_for group g ≡ reg
 reg_again (Some group) reg r g fits below named = sym fits
 reg_again None reg r g fits below named = elim (named refl) [
   | inl e ↦ omega (arith, e)
@@ -214,10 +229,12 @@ module _ (row : Row) (s : Syntax) (is_row : IsRow row) (is : IsSyntax row s) whe
   e_is = elim (with_modrm (gathers row.entry.form) (steps row.entry.form).modrm row.kind chosen.kind) [
     | inl none ↦
         let kind : plain_kind row.kind ≡ WithoutModRM = ap plain_kind none in
-        rw kind (ap (λ p. target (is_vector row.kind) p s.fields.x s.fields.b) (sym (no_place s.place (is.kind.plain ∙ kind))))
+        rw kind (ap (λ p. target (is_vector row.kind) p s.fields.x s.fields.b)
+        (sym (no_place s.place (is.kind.plain ∙ kind))))
     | inr modrm ↦
         let first = found names_e operand (slots row) (asked _ _ (full_row row).e modrm) in
-        let kind : plain_kind row.kind ≡ kind_of_target e_meant = sym (kind_of_target-target (is_vector row.kind) s.place s.fields.x s.fields.b ∙ is.kind.plain) in
+        let kind : plain_kind row.kind ≡ kind_of_target e_meant =
+        sym (kind_of_target-target (is_vector row.kind) s.place s.fields.x s.fields.b ∙ is.kind.plain) in
         ap (target_of (plain_kind row.kind)) first.operand
         ∙ ap (λ k. target_of k (operand first.slot)) kind
         ∙ e_slot (index_bank row) s.fields.r s.fields.v s.reg e_meant s.imm first.slot first.passes
@@ -227,13 +244,16 @@ module _ (row : Row) (s : Syntax) (is_row : IsRow row) (is : IsSyntax row s) whe
   below = reg_below _ _ is.reg
 
   g_is : (first : First names_g operand (slots row)) → number_of (operand_named names_g) ≡ s.reg + 8 * s.fields.r
-  g_is first = ap number_of first.operand ∙ g_slot (index_bank row) s.fields.r s.fields.v s.reg e_meant s.imm first.slot first.passes
+  g_is first = ap number_of first.operand
+      ∙ g_slot (index_bank row) s.fields.r s.fields.v s.reg e_meant s.imm first.slot first.passes
 
-  reg_named : row.group ≡ None → (number_of (operand_named names_g) ≡ s.reg + 8 * s.fields.r) ⊎ ((number_of (operand_named names_g) ≡ 0) × (s.reg ≡ 0))
+  reg_named : row.group ≡ None → (number_of (operand_named names_g) ≡ s.reg + 8 * s.fields.r)
+      ⊎ ((number_of (operand_named names_g) ≡ 0) × (s.reg ≡ 0))
   unfolding slots
   reg_named none = elim (true_false (steps row.entry.form).modrm) [
     | inl modrm ↦
-        let alone = not_grouped (has_groups row.entry.form) (groups row.entry.form row.l) (subst (λ group. Among group (group_choices row.entry.form row.l)) none chosen.group) in
+        let alone = not_grouped (has_groups row.entry.form) (groups row.entry.form row.l)
+        (subst (λ group. Among group (group_choices row.entry.form row.l)) none chosen.group) in
         inl (g_is (found names_g operand (slots row) (or_left _ _ _ (full_row row).g modrm alone)))
     | inr without ↦ elim (first_or_none names_g operand (slots row)) [
       | inl first ↦ inl (g_is first)
@@ -247,7 +267,10 @@ module _ (row : Row) (s : Syntax) (is_row : IsRow row) (is : IsSyntax row s) whe
   imm_bounds : let o = operand_named names_imm in (imm_of o ≤ s.imm) × (s.imm < imm_of o + lows_of o)
   unfolding slots has_imm
   imm_bounds =
-      let by_slot = λ (first : First names_imm operand (slots row)). subst (λ o. (imm_of o ≤ s.imm) × (s.imm < imm_of o + lows_of o)) (sym first.operand) (imm_slot (index_bank row) s.fields.r s.fields.v s.reg e_meant s.imm first.slot (imm_byte _ _ is.imm) first.passes) in
+      let by_slot = λ (first : First names_imm operand (slots row)). subst
+      (λ o. (imm_of o ≤ s.imm) × (s.imm < imm_of o + lows_of o)) (sym first.operand)
+      (imm_slot (index_bank row) s.fields.r s.fields.v s.reg e_meant s.imm first.slot (imm_byte _ _ is.imm)
+      first.passes) in
       elim (true_false (steps row.entry.form).imm) [
         | inl has ↦ by_slot (found names_imm operand (slots row) (asked _ _ (full_row row).imm has))
         | inr without ↦ elim (first_or_none names_imm operand (slots row)) [
@@ -258,16 +281,20 @@ module _ (row : Row) (s : Syntax) (is_row : IsRow row) (is : IsSyntax row s) whe
 
   r_open : Allows (r_fixed (list_any names_g (slots row)) (number_of (operand_named names_g))) (s.fields.r == 1)
   r_open = by (list_any names_g (slots row)) refl where
-    by : (named : Bool) → list_any names_g (slots row) ≡ named → Allows (r_fixed named (number_of (operand_named names_g))) (s.fields.r == 1)
-    by true h = upper_again s.reg s.fields.r below is.prefix.r ∙ ap is_upper (sym (g_is (found names_g operand (slots row) h)))
+    by : (named : Bool) → list_any names_g (slots row) ≡ named
+        → Allows (r_fixed named (number_of (operand_named names_g))) (s.fields.r == 1)
+    by true h = upper_again s.reg s.fields.r below is.prefix.r
+        ∙ ap is_upper (sym (g_is (found names_g operand (slots row) h)))
     by false h = tt
 
   v_open : Allows (v_fixed (v_rule row) (number_of (operand_named names_v))) s.fields.v
   v_open = by (v_rule row) refl is.v where
-    by : (rule : VvvvRule) → v_rule row ≡ rule → FitsRule rule s.fields.v → Allows (v_fixed rule (number_of (operand_named names_v))) s.fields.v
+    by : (rule : VvvvRule) → v_rule row ≡ rule → FitsRule rule s.fields.v
+        → Allows (v_fixed rule (number_of (operand_named names_v))) s.fields.v
     by Named h fits =
         let first = found names_v operand (slots row) (v_named row h) in
-        let v_is = ap number_of first.operand ∙ v_slot (index_bank row) s.fields.r s.fields.v s.reg e_meant s.imm first.slot first.passes in
+        let v_is = ap number_of first.operand
+        ∙ v_slot (index_bank row) s.fields.r s.fields.v s.reg e_meant s.imm first.slot first.passes in
         omega (arith, v_is, is.prefix.v)
     by Zero h fits = fits
     by Free h fits = tt
@@ -278,19 +305,45 @@ module _ (row : Row) (s : Syntax) (is_row : IsRow row) (is : IsSyntax row s) whe
       let bounds = imm_bounds in
       let vector = is_vector row.kind in
       let place = ap (place_with (form_of s.place)) e_is ∙ place_again vector s.place s.fields.x s.fields.b is.place in
-      let imm : s.imm ≡ imm_of (imm_operand row (meant row s)) + (s.imm - imm_of (imm_operand row (meant row s))) = omega (arith, bounds.0) in
-      let choices : Choices = record { form = code_form s.form; r = s.fields.r == 1; x = s.fields.x; b = s.fields.b; vvvv = s.fields.v; address = form_of s.place; low = s.imm - imm_of (imm_operand row (meant row s)) } in
-      let fields_are : s.fields ≡ chosen_fields row choices = λ t. record { map = is.map t; pp = is.pp t; w = is.w t; l = is.l t; r = bit_again s.fields.r is.prefix.r t; x = s.fields.x; b = s.fields.b; v = s.fields.v } in
+      let imm : s.imm ≡ imm_of (imm_operand row (meant row s)) + (s.imm - imm_of (imm_operand row (meant row s))) =
+      omega (arith, bounds.0) in
+      let choices : Choices = record {
+        form = code_form s.form;
+        r = s.fields.r == 1;
+        x = s.fields.x;
+        b =
+            s.fields.b;
+        vvvv = s.fields.v;
+        address = form_of s.place;
+        low =
+            s.imm - imm_of (imm_operand row (meant row s));
+      } in
+      let fields_are : s.fields ≡ chosen_fields row choices =
+      λ t. record {
+        map = is.map t;
+        pp = is.pp t;
+        w = is.w t;
+        l = is.l t;
+        r =
+            bit_again s.fields.r is.prefix.r t;
+        x = s.fields.x;
+        b = s.fields.b;
+        v = s.fields.v;
+      } in
       record {
         choices = choices;
         is_open = record {
           fits = record { v = omega (arith, is.prefix.v); address = is_address_form s.place is.place };
-          form = subst (λ f. fields.CanSay (prefix_form (code_form s.form)) f) fields_are (subst (λ form. fields.CanSay form s.fields) (form_again s.form) is.prefix.can_say);
+          form = subst (λ f. fields.CanSay (prefix_form (code_form s.form)) f) fields_are
+              (subst (λ form. fields.CanSay form s.fields) (form_again s.form) is.prefix.can_say);
           r = r_open;
-          x = subst (λ e. Allows (x_fixed e) s.fields.x) (sym e_is) (x_allowed vector s.place s.fields.x s.fields.b is.place);
-          b = subst (λ e. Allows (b_fixed e) s.fields.b) (sym e_is) (b_allowed vector s.place s.fields.x s.fields.b is.place);
+          x = subst (λ e. Allows (x_fixed e) s.fields.x) (sym e_is)
+              (x_allowed vector s.place s.fields.x s.fields.b is.place);
+          b = subst (λ e. Allows (b_fixed e) s.fields.b) (sym e_is)
+              (b_allowed vector s.place s.fields.x s.fields.b is.place);
           v = v_open;
-          address = subst (λ e. FormFits e (form_of s.place)) (sym e_is) (form_fits vector s.place s.fields.x s.fields.b is.place);
+          address = subst (λ e. FormFits e (form_of s.place)) (sym e_is)
+              (form_fits vector s.place s.fields.x s.fields.b is.place);
           low = omega (arith, bounds.0, bounds.1);
         };
         is = λ t. record {
@@ -302,5 +355,6 @@ module _ (row : Row) (s : Syntax) (is_row : IsRow row) (is : IsSyntax row s) whe
         };
       }
 
-pub none_missing : (row : Row) (s : Syntax) (m : Meaning) → IsRow row → IsSyntax row s → m ≡ meant row s → IsMade row s m
+pub none_missing : (row : Row) (s : Syntax) (m : Meaning) → IsRow row → IsSyntax row s → m ≡ meant row s
+    → IsMade row s m
 none_missing row s m is_row is means = subst (IsMade row s) (sym means) (made_again row s is_row is)

@@ -1,10 +1,12 @@
 -- A place is made by its own form of the target that it names, with the bits X and B that this fixes.
-use Rattle.std.specs.Prelude.{◌≡◌, refl, ℕ, ℤ, pos, negsuc, ◌+◌, ◌*◌, ◌%◌, ◌^◌, ◌<◌, Bool, true, false, not, ◌&&◌, ◌==◌, Some, None, if◌then◌else◌}
+use Rattle.std.specs.Prelude.{◌≡◌, refl, ℕ, ℤ, pos, negsuc, ◌+◌, ◌*◌, ◌%◌, ◌^◌, ◌<◌, Bool, true, false, not, ◌&&◌, ◌==◌}
+use Rattle.std.specs.Prelude.{Some, None, if◌then◌else◌}
 use Rattle.std.specs.Int.{cast_signed, w8, w32}
 use Rattle.std.proofs.Common.{arith, ap, ap₂, sym, eqb-true}
 use Rattle.std.proofs.lemmas.Int.{ints}
 use Rattle.x86_address.specs.Bytes.{bit, Displacement, Absent, Short, Long, IsDisplacement, displacement_value}
-use Rattle.x86_address.specs.Place.{Place, NoPlace, Direct, Based, RipBased, Scaled, Baseless, IsPlace, index_of, target}
+use Rattle.x86_address.specs.Place.{Place, NoPlace, Direct, Based, RipBased, Scaled, Baseless, IsPlace, index_of}
+use Rattle.x86_address.specs.Place.{target}
 use Rattle.x86_address.specs.Shortest.{index_field, doubleword_of}
 use Rattle.x86_address.specs.Shortest.Lemmas.{low_field_again, is_upper-field}
 use Rattle.vex_rows.specs.Row.Lists.{both-parts}
@@ -12,7 +14,8 @@ use Rattle.vex_list.specs.declared.choices.Width.{Width}
 use Rattle.vex_list.specs.declared.choices.Width.TheVariants.{NoBytes, OneByte, FourBytes}
 use Rattle.vex_list.specs.declared.choices.AddressForm.{AddressForm}
 use Rattle.vex_list.specs.declared.choices.AddressForm.TheVariants.{WithoutSib, WithSib}
-use Rattle.vex_list.specs.Choices.{displacement_with, place_with, FormFits, IsAddressForm, Allows, x_of_index, x_fixed, b_fixed}
+use Rattle.vex_list.specs.Choices.{displacement_with, place_with, FormFits, IsAddressForm, Allows, x_of_index, x_fixed}
+use Rattle.vex_list.specs.Choices.{b_fixed}
 
 -- the width of a displacement
 abbrev pub width_of : Displacement → Width
@@ -49,17 +52,21 @@ index_again vector k i x h = by (not vector && i + 8 * bit x == 4) refl where
   four true e = omega arith
   four false e = omega arith
 
-  by : (none : Bool) → (not vector && i + 8 * bit x == 4) ≡ none → index_field (if none then None else Some (i + 8 * bit x, 2 ^ k)) ≡ i
+  by : (none : Bool) → (not vector && i + 8 * bit x == 4) ≡ none
+      → index_field (if none then None else Some (i + 8 * bit x, 2 ^ k)) ≡ i
   by true e = four x (eqb-true (i + 8 * bit x) 4 (both-parts (not vector) (i + 8 * bit x == 4) e).1)
   by false e = low_field_again i x h
 
-pub place_again : (vector : Bool) (p : Place) (x b : Bool) → IsPlace p → place_with (form_of p) (target vector p x b) ≡ p
+pub place_again : (vector : Bool) (p : Place) (x b : Bool) → IsPlace p
+    → place_with (form_of p) (target vector p x b) ≡ p
 place_again vector NoPlace x b h = refl
 place_again vector (Direct rm) x b h = ap Direct (low_field_again rm b h)
 place_again vector (Based rm d) x b h = ap₂ Based (low_field_again rm b h.0) (displacement_again d h.3)
 place_again vector (RipBased n) x b h = ap RipBased (doubleword_again n _ refl h)
-place_again vector (Scaled k i j d) x b h = λ t. Scaled k (index_again vector k i x h.1 t) (low_field_again j b h.2 t) (displacement_again d h.4 t)
-place_again vector (Baseless k i n) x b h = λ t. Baseless k (index_again vector k i x h.1 t) (doubleword_again n _ refl h.2 t)
+place_again vector (Scaled k i j d) x b h =
+    λ t. Scaled k (index_again vector k i x h.1 t) (low_field_again j b h.2 t) (displacement_again d h.4 t)
+place_again vector (Baseless k i n) x b h =
+    λ t. Baseless k (index_again vector k i x h.1 t) (doubleword_again n _ refl h.2 t)
 
 pub form_fits : (vector : Bool) (p : Place) (x b : Bool) → IsPlace p → FormFits (target vector p x b) (form_of p)
 form_fits vector NoPlace x b h = refl
@@ -78,7 +85,8 @@ is_address_form (RipBased n) h = tt
 is_address_form (Scaled k i j d) h = h.0
 is_address_form (Baseless k i n) h = h.0
 
-x_allowed_by : (none : Bool) (k i : ℕ) (x : Bool) → i < 8 → Allows (x_of_index (if none then None else Some (i + 8 * bit x, 2 ^ k))) x
+x_allowed_by : (none : Bool) (k i : ℕ) (x : Bool) → i < 8
+    → Allows (x_of_index (if none then None else Some (i + 8 * bit x, 2 ^ k))) x
 x_allowed_by true k i x h = tt
 x_allowed_by false k i x h = sym (is_upper-field i x h)
 

@@ -20,7 +20,8 @@ reg_unwrapped (Some group) g = refl
 -- the kind of a row, whatever index an address has
 pub kind_plain : (form : Form) (memory : Bool) → kind_by (steps form).modrm memory ≡ plain_kind (kind_for form memory)
 kind_plain form memory = by (steps form).modrm memory (gathers form) where
-  by : (modrm memory vector : Bool) → kind_by modrm memory ≡ plain_kind (if modrm then (if memory then memory_kind vector else InRegister) else WithoutModRM)
+  by : (modrm memory vector : Bool) → kind_by modrm memory
+      ≡ plain_kind (if modrm then (if memory then memory_kind vector else InRegister) else WithoutModRM)
   by true true true = refl
   by true true false = refl
   by true false vector = refl

@@ -1,5 +1,6 @@
 -- All byte strings up to a length, in ascending order.
-use Rattle.std.specs.Prelude.{◌≡◌, refl, ◌⊎◌, ℕ, zero, suc, ◌+◌, ◌<◌, ◌≤◌, Bool, true, false, List, [], ◌∷◌, ◌++◌, map, filter, length, cond}
+use Rattle.std.specs.Prelude.{◌≡◌, refl, ◌⊎◌, ℕ, zero, suc, ◌+◌, ◌<◌, ◌≤◌, Bool, true, false, List, [], ◌∷◌, ◌++◌, map}
+use Rattle.std.specs.Prelude.{filter, length, cond}
 use Rattle.std.specs.Cmp.{nat_cmp_is}
 use Rattle.std.specs.Cmp.Lexicographic.{slice_cmp}
 use Rattle.std.specs.Ordering.{nat_cmp, is_lt, ordering_then}
@@ -7,7 +8,8 @@ use Rattle.std.proofs.Math.Nat.{eq-or-lt_of_le}
 use Rattle.std.proofs.Common.{Less, Equal, arith, ap, sym, ◌∙◌, inl, inr, subst, subst₂}
 use Rattle.x86_address.specs.Bytes.{IsBytes}
 use Rattle.vex_rows.specs.Row.{Among}
-use Rattle.vex_rows.specs.Row.Lists.{among-map, from-map, among-append, among-append_left, among-append_right, from-filter}
+use Rattle.vex_rows.specs.Row.Lists.{among-map, from-map, among-append, among-append_left, among-append_right}
+use Rattle.vex_rows.specs.Row.Lists.{from-filter}
 use Rattle.vex_list.specs.Order.{Before, Ascending}
 use Rattle.vex_list.specs.AllSpellings.{joined, strings}
 
@@ -24,7 +26,8 @@ ascending_map : (k : ℕ) (tails : List (List ℕ)) → Ascending tails → Asce
 ascending_map k [] a = tt
 ascending_map k (t ∷ tails) a = (λ other m. let from = from-map (λ tail. k ∷ tail) other tails m in subst (Before (k ∷ t)) (sym from.2) (same_first k t from.0 (a.0 from.0 from.1)), ascending_map k tails a.1)
 
-ascending_append : (xs ys : List (List ℕ)) → Ascending xs → Ascending ys → ((x y : List ℕ) → Among x xs → Among y ys → Before x y) → Ascending (xs ++ ys)
+ascending_append : (xs ys : List (List ℕ)) → Ascending xs → Ascending ys
+    → ((x y : List ℕ) → Among x xs → Among y ys → Before x y) → Ascending (xs ++ ys)
 ascending_append [] ys a b h = b
 ascending_append (x ∷ xs) ys a b h = (
   λ other m. elim (among-append other xs ys m) [ inl k ↦ a.0 other k | inr k ↦ h x other (inl refl) k ],
@@ -57,18 +60,24 @@ from_joined tails (suc n) k b m = elim (among-append b (map (λ tail. k ∷ tail
   | inr h ↦ let later = from_joined tails n (k + 1) b h in record { first = later.first; tail = later.tail; from = omega (arith, later.from); below = omega (arith, later.below); among = later.among; is = later.is }
 ]
 
-to_joined : (tails : List (List ℕ)) (n k first : ℕ) (tail : List ℕ) → k ≤ first → first < k + n → Among tail tails → Among (first ∷ tail) (joined tails n k)
+to_joined : (tails : List (List ℕ)) (n k first : ℕ) (tail : List ℕ) → k ≤ first → first < k + n → Among tail tails
+    → Among (first ∷ tail) (joined tails n k)
 unfolding joined
 to_joined tails zero k first tail from below m = absurd (omega (arith, from, below))
-to_joined tails (suc n) k first tail from below m = by (eq-or-lt_of_le from) (λ l. to_joined tails n (k + 1) first tail (omega (arith, l)) (omega (arith, below)) m) where
-  by : (k ≡ first) ⊎ (k < first) → (k < first → Among (first ∷ tail) (joined tails n (k + 1))) → Among (first ∷ tail) (map (λ tail. k ∷ tail) tails ++ joined tails n (k + 1))
-  by (inl e) later = among-append_left (first ∷ tail) (map (λ tail. k ∷ tail) tails) (joined tails n (k + 1)) (subst (λ j. Among (j ∷ tail) (map (λ tail. k ∷ tail) tails)) e (among-map (λ tail. k ∷ tail) tail tails m))
-  by (inr l) later = among-append_right (first ∷ tail) (map (λ tail. k ∷ tail) tails) (joined tails n (k + 1)) (later l)
+to_joined tails (suc n) k first tail from below m =
+    by (eq-or-lt_of_le from) (λ l. to_joined tails n (k + 1) first tail (omega (arith, l)) (omega (arith, below)) m)
+  where
+    by : (k ≡ first) ⊎ (k < first) → (k < first → Among (first ∷ tail) (joined tails n (k + 1)))
+        → Among (first ∷ tail) (map (λ tail. k ∷ tail) tails ++ joined tails n (k + 1))
+    by (inl e) later = among-append_left (first ∷ tail) (map (λ tail. k ∷ tail) tails) (joined tails n (k + 1))
+        (subst (λ j. Among (j ∷ tail) (map (λ tail. k ∷ tail) tails)) e (among-map (λ tail. k ∷ tail) tail tails m))
+    by (inr l) later = among-append_right (first ∷ tail) (map (λ tail. k ∷ tail) tails) (joined tails n (k + 1)) (later l)
 
 ascending_joined : (tails : List (List ℕ)) (n k : ℕ) → Ascending tails → Ascending (joined tails n k)
 unfolding joined
 ascending_joined tails zero k a = tt
-ascending_joined tails (suc n) k a = ascending_append (map (λ tail. k ∷ tail) tails) (joined tails n (k + 1)) (ascending_map k tails a) (ascending_joined tails n (k + 1) a) (λ x y m l.
+ascending_joined tails (suc n) k a = ascending_append (map (λ tail. k ∷ tail) tails) (joined tails n (k + 1))
+    (ascending_map k tails a) (ascending_joined tails n (k + 1) a) (λ x y m l.
     let t = from-map (λ tail. k ∷ tail) x tails m in
     let later = from_joined tails n (k + 1) y l in
     subst₂ Before (sym t.2) (sym later.is) (less_first k later.first t.0 later.tail (omega (arith, later.from))))
@@ -90,4 +99,5 @@ unfolding strings
 in_strings zero [] is h = inl refl
 in_strings zero (byte ∷ b) is h = absurd (omega arith)
 in_strings (suc n) [] is h = inl refl
-in_strings (suc n) (byte ∷ b) is h = inr (to_joined (strings n) 256 0 byte b (omega arith) (omega (arith, is.0)) (in_strings n b is.1 (omega (arith, h))))
+in_strings (suc n) (byte ∷ b) is h = inr
+    (to_joined (strings n) 256 0 byte b (omega arith) (omega (arith, is.0)) (in_strings n b is.1 (omega (arith, h))))

@@ -1,5 +1,6 @@
 -- Every spelling is that of a choice of an entry of the opcode.
-use Rattle.std.specs.Prelude.{◌≡◌, refl, ◌↔◌, ◌⊎◌, IfSome, IsNone, ℕ, ◌+◌, ◌≤◌, ◌<◌, Bool, true, false, ◌&&◌, List, [], ◌∷◌, length, Option, Some, None, if◌then◌else◌, take}
+use Rattle.std.specs.Prelude.{◌≡◌, refl, ◌↔◌, ◌⊎◌, IfSome, IsNone, ℕ, ◌+◌, ◌≤◌, ◌<◌, Bool, true, false, ◌&&◌, List, []}
+use Rattle.std.specs.Prelude.{◌∷◌, length, Option, Some, None, if◌then◌else◌, take}
 use Rattle.std.proofs.Common.{zero, suc, get_or, add-one, inl, inr, arith, ap, sym, ◌∙◌, subst}
 use Rattle.x86_operand.specs.Meaning.{Meaning}
 use Rattle.vex_rows.specs.declared.entry.Entry.{Entry}
@@ -37,7 +38,8 @@ size_spelled : (m : Meaning) (row : Row) (b : List ℕ) → SpellsBy b m row →
 size_spelled m row b by = ap (λ (m : Meaning). m.size) by.means ∙ size_meant row by.parts
 
 -- a spelling is by one of the entries of its opcode
-by_table : (m : Meaning) → RowsHaveEntries → RowsAreChoices → (b : List ℕ) → Spells b m → ByEntries m (entries_with m.opcode) b
+by_table : (m : Meaning) → RowsHaveEntries → RowsAreChoices → (b : List ℕ) → Spells b m
+    → ByEntries m (entries_with m.opcode) b
 by_table m have are b s =
     let choice = are s.row s.is_row in
     let chosen : ByChosen m s.row.entry s.row.w choice.l choice.memory choice.group b = record {
@@ -45,12 +47,19 @@ by_table m have are b s =
       is_row = subst IsRow choice.row_is s.is_row;
       by = subst (SpellsBy b m) choice.row_is s.by;
     } in
-    let group : ByGroup m s.row.entry s.row.w choice.l choice.memory b = (choice.group, omega arith, choice.small, chosen) in
-    let entry : ByEntry m s.row.entry b = (s.row.w, (choice.l, (choice.memory, group))) in
-    (s.row.entry, subst (λ opcode. Among s.row.entry (entries_with opcode)) (sym (opcode_spelled m s.row b s.by)) (have s.row s.is_row), entry)
+    let group : ByGroup m s.row.entry s.row.w choice.l choice.memory b =
+    (choice.group, omega arith, choice.small, chosen) in
+    let entry : ByEntry m s.row.entry b = (s.row.w, (choice.l, (choice.memory, group))) in (
+      s.row.entry,
+      subst (λ opcode. Among s.row.entry (entries_with opcode)) (sym (opcode_spelled m s.row b s.by))
+          (have s.row s.is_row),
+      entry,
+    )
 
-pub is_next : (m : Meaning) (previous : List ℕ) (next : Option (List ℕ)) → RowsHaveEntries → RowsAreChoices → Covers m previous (ByEntries m (entries_with m.opcode)) None next → IsNext m previous next
-is_next m previous next have are c = record { later = c.later tt; least = λ b s before. c.covers b (by_table m have are b s) s before }
+pub is_next : (m : Meaning) (previous : List ℕ) (next : Option (List ℕ)) → RowsHaveEntries → RowsAreChoices
+    → Covers m previous (ByEntries m (entries_with m.opcode)) None next → IsNext m previous next
+is_next m previous next have are c = record
+    { later = c.later tt; least = λ b s before. c.covers b (by_table m have are b s) s before }
 
 -- no string comes before the empty one
 after_none : SpellingLength → (m : Meaning) (b : List ℕ) → Spells b m → Before [] b
@@ -59,11 +68,13 @@ after_none long m b s = by b (long b m s).0 where
   by [] h = absurd (omega arith)
   by (byte ∷ b) h = refl
 
-pub first_least : SpellingLength → (m : Meaning) (first : Option (List ℕ)) → IsNext m [] first → IfSome first (λ first. (bytes : List ℕ) → Spells bytes m → UpTo first bytes)
+pub first_least : SpellingLength → (m : Meaning) (first : Option (List ℕ)) → IsNext m [] first
+    → IfSome first (λ first. (bytes : List ℕ) → Spells bytes m → UpTo first bytes)
 first_least long m None next = tt
 first_least long m (Some first) next = λ bytes s. next.least bytes s (after_none long m bytes s)
 
-pub first_none : SpellingLength → (m : Meaning) (first : Option (List ℕ)) → IsNext m [] first → IsNone first ↔ ((bytes : List ℕ) → Spells bytes m → ⊥)
+pub first_none : SpellingLength → (m : Meaning) (first : Option (List ℕ)) → IsNext m [] first
+    → IsNone first ↔ ((bytes : List ℕ) → Spells bytes m → ⊥)
 first_none long m None next = (λ h bytes s. next.least bytes s (after_none long m bytes s), λ h. refl)
 first_none long m (Some first) next = (λ h. cc, λ none. absurd (none first next.later.0))
 
@@ -83,12 +94,17 @@ module _ (m : Meaning) (previous : List ℕ) (entry : Entry) (w l memory : Bool)
   is_row_there are listed h = let both = both-parts _ _ h in are entry w l memory group listed both.0 both.1
 
   -- where the choice is no row
-  pub not_there : (a : Option (List ℕ)) → ((may_be entry memory && exists row) ≡ true → ⊥) → Covers m previous (ByChosen m entry w l memory group) a a
-  not_there a none = cover_empty m previous (ByChosen m entry w l memory group) a (λ b t. none (parts-both _ _ t.may_be (exists_row row t.is_row)))
+  pub not_there : (a : Option (List ℕ)) → ((may_be entry memory && exists row) ≡ true → ⊥)
+      → Covers m previous (ByChosen m entry w l memory group) a a
+  not_there a none = cover_empty m previous (ByChosen m entry w l memory group) a
+      (λ b t. none (parts-both _ _ t.may_be (exists_row row t.is_row)))
 
   -- where its opcode or its size is another
-  pub other_row : (a : Option (List ℕ)) (layout : RowLayout) → IsLayout row layout → ((layout.opcode ≡ m.opcode) × (layout.mem_size ≡ m.size) → ⊥) → Covers m previous (ByChosen m entry w l memory group) a a
-  other_row a layout is other = cover_empty m previous (ByChosen m entry w l memory group) a (λ b t. other (is.opcode ∙ sym (opcode_spelled m row b t.by), is.mem_size ∙ sym (size_spelled m row b t.by)))
+  pub other_row : (a : Option (List ℕ)) (layout : RowLayout) → IsLayout row layout
+      → ((layout.opcode ≡ m.opcode) × (layout.mem_size ≡ m.size) → ⊥)
+      → Covers m previous (ByChosen m entry w l memory group) a a
+  other_row a layout is other = cover_empty m previous (ByChosen m entry w l memory group) a
+      (λ b t. other (is.opcode ∙ sym (opcode_spelled m row b t.by), is.mem_size ∙ sym (size_spelled m row b t.by)))
 
   -- the group of the layout is a value of three bits
   pub small_group : group < 8 → (x : ℕ) → group_for entry.form group ≡ Some x → x < 8
@@ -98,31 +114,56 @@ module _ (m : Meaning) (previous : List ℕ) (entry : Entry) (w l memory : Bool)
     by false e = cc
 
 -- without groups all reg fields choose one row
-one_group : (m : Meaning) (entry : Entry) (w l memory : Bool) (group : ℕ) (b : List ℕ) → has_groups entry.form ≡ false → ByChosen m entry w l memory group b → ByChosen m entry w l memory 0 b
+one_group : (m : Meaning) (entry : Entry) (w l memory : Bool) (group : ℕ) (b : List ℕ) → has_groups entry.form ≡ false
+    → ByChosen m entry w l memory group b → ByChosen m entry w l memory 0 b
 one_group m entry w l memory group b none t =
-    let same : row_for entry w l memory group ≡ row_for entry w l memory 0 = ap (λ has. record { entry = entry; w = w; l = if l then 1 else 0; kind = (row_for entry w l memory group).kind; group = if has then Some group else None }) none ∙ sym (ap (λ has. record { entry = entry; w = w; l = if l then 1 else 0; kind = (row_for entry w l memory group).kind; group = if has then Some 0 else None }) none) in
+    let same : row_for entry w l memory group ≡ row_for entry w l memory 0 =
+    ap (λ has. record {
+      entry = entry;
+      w = w;
+      l = if l then 1 else 0;
+      kind =
+          (row_for entry w l memory group).kind;
+      group = if has then Some group else None;
+    }) none
+    ∙ sym (ap (λ has. record {
+      entry = entry;
+      w = w;
+      l = if l then 1 else 0;
+      kind =
+          (row_for entry w l memory group).kind;
+      group = if has then Some 0 else None;
+    }) none) in
     record { may_be = t.may_be; is_row = subst IsRow same t.is_row; by = subst (SpellsBy b m) same t.by }
 
-pub without_groups : (m : Meaning) (entry : Entry) (w l memory : Bool) (b : List ℕ) → has_groups entry.form ≡ false → ByGroup m entry w l memory b → ByChosen m entry w l memory 0 b
+pub without_groups : (m : Meaning) (entry : Entry) (w l memory : Bool) (b : List ℕ) → has_groups entry.form ≡ false
+    → ByGroup m entry w l memory b → ByChosen m entry w l memory 0 b
 without_groups m entry w l memory b none t = one_group m entry w l memory t.0 b none t.3
 
 -- the strings of one more entry
-more_entries : (entries : List Entry) (i : ℕ) (other entry : Entry) → i < length entries → Among entry (take (i + 1) entries) → Among entry (take i entries) ⊎ (entry ≡ get_or entries i other)
+more_entries : (entries : List Entry) (i : ℕ) (other entry : Entry) → i < length entries
+    → Among entry (take (i + 1) entries) → Among entry (take i entries) ⊎ (entry ≡ get_or entries i other)
 more_entries [] i other entry h m = absurd (omega arith)
 more_entries (e ∷ entries) zero other entry h (inl same) = inr same
 more_entries (e ∷ entries) zero other entry h (inr m) = absurd m
-more_entries (e ∷ entries) (suc i) other entry h m = by (rw add-one at m) (λ k. more_entries entries i other entry (omega arith) (rw add-one k)) where
-  by : Among entry (e ∷ take (suc i) entries) → (Among entry (take (suc i) entries) → Among entry (take i entries) ⊎ (entry ≡ get_or entries i other)) → Among entry (e ∷ take i entries) ⊎ (entry ≡ get_or entries i other)
-  by (inl same) later = inl (inl same)
-  by (inr k) later = elim (later k) [ inl l ↦ inl (inr l) | inr same ↦ inr same ]
+more_entries (e ∷ entries) (suc i) other entry h m =
+    by (rw add-one at m) (λ k. more_entries entries i other entry (omega arith) (rw add-one k)) where
+      by : Among entry (e ∷ take (suc i) entries)
+          → (Among entry (take (suc i) entries) → Among entry (take i entries) ⊎ (entry ≡ get_or entries i other))
+          → Among entry (e ∷ take i entries) ⊎ (entry ≡ get_or entries i other)
+      by (inl same) later = inl (inl same)
+      by (inr k) later = elim (later k) [ inl l ↦ inl (inr l) | inr same ↦ inr same ]
 
-pub one_more : (m : Meaning) (entries : List Entry) (i : ℕ) (other : Entry) (b : List ℕ) → i < length entries → ByEntries m (take (i + 1) entries) b → Either (ByEntries m (take i entries)) (ByEntry m (get_or entries i other)) b
+pub one_more : (m : Meaning) (entries : List Entry) (i : ℕ) (other : Entry) (b : List ℕ) → i < length entries
+    → ByEntries m (take (i + 1) entries) b
+    → Either (ByEntries m (take i entries)) (ByEntry m (get_or entries i other)) b
 one_more m entries i other b h t = elim (more_entries entries i other t.0 h t.1) [
   | inl k ↦ inl (t.0, k, t.2)
   | inr same ↦ inr (subst (λ entry. ByEntry m entry b) same t.2)
 ]
 
-pub entry_at : (entries : List Entry) (i : ℕ) (other : Entry) → i < length entries → Among (get_or entries i other) entries
+pub entry_at : (entries : List Entry) (i : ℕ) (other : Entry) → i < length entries
+    → Among (get_or entries i other) entries
 entry_at [] i other h = absurd (omega arith)
 entry_at (e ∷ entries) zero other h = inl refl
 entry_at (e ∷ entries) (suc i) other h = inr (entry_at entries i other (omega arith))

@@ -19,12 +19,23 @@ module _ (bytes : List ℕ) (m : Meaning) where
 
   module _ (spells : Spells bytes m) where
     -- no settings refuse them
-    pub not_refused : BlockedOrBegun → SpellingBytes → AllSettingsPermitAll → (error : DecodeError) (n : ℕ) → blocked all_bits bytes ≡ Some (error, n) → ⊥
+    pub not_refused : BlockedOrBegun → SpellingBytes → AllSettingsPermitAll → (error : DecodeError) (n : ℕ)
+        → blocked all_bits bytes ≡ Some (error, n) → ⊥
     not_refused begun are_bytes permit error n e =
-        let none : blocked all_bits bytes ≡ None = (begun all_bits bytes (are_bytes bytes m spells)).1 (record { front = bytes; begins = ([], sym (append-nil bytes)); m = m; spells = spells; permitted = permit m.evex m.opcode }) in
+        let none : blocked all_bits bytes ≡ None =
+        (begun all_bits bytes (are_bytes bytes m spells)).1
+        (record {
+          front = bytes;
+          begins = ([], sym (append-nil bytes));
+          m = m;
+          spells = spells;
+          permitted =
+              permit m.evex m.opcode;
+        }) in
         cc
 
-    module _ (prefix_free : PrefixFree) (n : ℕ) (d : Meaning) (within : n ≤ length bytes) (begin : Spells (take n bytes) d) where
+    module _ (prefix_free : PrefixFree) (n : ℕ) (d : Meaning) (within : n ≤ length bytes)
+        (begin : Spells (take n bytes) d) where
       same : take n bytes ≡ bytes
       same = prefix_free (take n bytes) bytes d m begin spells (drop n bytes, sym (take-append-drop n bytes))
 

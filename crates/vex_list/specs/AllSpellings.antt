@@ -1,5 +1,6 @@
 -- All spellings of a meaning, as one list: of all byte strings of at most eleven bytes, in order, those that spell it.
-use Rattle.std.specs.Prelude.{ℕ, zero, suc, Bool, false, List, [], ◌∷◌, map, flat_map, filter, Option, Some, None, Ok, Err}
+use Rattle.std.specs.Prelude.{ℕ, zero, suc, Bool, false, List, [], ◌∷◌, map, flat_map, filter, Option, Some, None, Ok}
+use Rattle.std.specs.Prelude.{Err}
 use Rattle.std.specs.List.{range_with_len}
 use Rattle.x86_operand.specs.Meaning.{Meaning}
 use Rattle.x86_operand.specs.Same.{same_meaning}
@@ -19,8 +20,8 @@ reads_all m (Err error) = false
 unfoldable pub is_spelling : Meaning → List ℕ → Bool
 is_spelling m b = reads_all m (walk b)
 
--- the strings that begin with one of n numbers, from k on, and go on with one of the tails, by the first number and then
--- in the order of the tails
+-- the strings that begin with one of n numbers, from k on, and go on with one of the tails, by the first number and
+-- then in the order of the tails
 unfoldable pub joined : List (List ℕ) → ℕ → ℕ → List (List ℕ)
 joined tails n k = flat_map (λ first. map (λ tail. first ∷ tail) tails) (range_with_len k n)
 

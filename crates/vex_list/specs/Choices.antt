@@ -3,7 +3,8 @@ use Rattle.std.specs.Prelude.{◌≡◌, ℕ, ◌+◌, ◌%◌, ◌<◌, ℤ, Bo
 use Rattle.x86_operand.specs.Kind.{Kind, WithoutModRM, InRegister, InMemory, plain_kind}
 use Rattle.x86_operand.specs.Meaning.{Meaning, OperandMeaning, register}
 use Rattle.x86_address.specs.Bytes.{bit, Displacement, Absent, Short, Long}
-use Rattle.x86_address.specs.Place.{Place, NoPlace, Direct, Based, RipBased, Scaled, Baseless, Base, NoBase, Rip, Numbered, Target, NoTarget, Number, At}
+use Rattle.x86_address.specs.Place.{Place, NoPlace, Direct, Based, RipBased, Scaled, Baseless, Base, NoBase, Rip}
+use Rattle.x86_address.specs.Place.{Numbered, Target, NoTarget, Number, At}
 use Rattle.x86_address.specs.Shortest.{index_field, doubleword_of, is_upper}
 use Rattle.vex_rows.specs.Row.{Row}
 use Rattle.vex_forms.specs.declared.slot.Slot.{Slot}
@@ -151,7 +152,17 @@ prefix_form ThreeBytes = C4
 
 -- the fields of the prefix of a choice
 abbrev pub chosen_fields : Row → Choices → Fields
-chosen_fields row c = record { map = row.entry.map; pp = row.entry.pp; w = row.w; l = row.l; r = bit c.r; x = c.x; b = c.b; v = c.vvvv }
+chosen_fields row c = record {
+  map = row.entry.map;
+  pp = row.entry.pp;
+  w = row.w;
+  l = row.l;
+  r = bit c.r;
+  x = c.x;
+  b =
+      c.b;
+  v = c.vvvv;
+}
 
 -- the parts that a choice makes for a meaning by a row
 unfoldable pub made : Row → Meaning → Choices → Syntax

@@ -9,7 +9,8 @@ use Rattle.vex_decode.specs.Spelling.{Syntax, IsSyntax, meant}
 use Rattle.vex_list.specs.declared.choices.Choices.{Choices}
 use Rattle.vex_list.specs.Order.{is_before, IsListOfAll, IsNext}
 use Rattle.vex_list.specs.AllSpellings.{all_spellings}
-use Rattle.vex_list.specs.Choices.{IsChoices, FormFits, Allows, r_fixed, x_fixed, b_fixed, v_fixed, lows_of, prefix_form, chosen_fields, made, g_number, v_number, e_target, imm_operand}
+use Rattle.vex_list.specs.Choices.{IsChoices, FormFits, Allows, r_fixed, x_fixed, b_fixed, v_fixed, lows_of}
+use Rattle.vex_list.specs.Choices.{prefix_form, chosen_fields, made, g_number, v_number, e_target, imm_operand}
 
 -- a choice is one of those that the row and the meaning leave open
 pub record IsOpen (row : Row) (m : Meaning) (c : Choices) : Type 0 where
@@ -43,9 +44,10 @@ ListIsOne = (m : Meaning) (xs ys : List (List ℕ)) → IsListOfAll m xs → IsL
 abbrev pub TheseAreAll : Type 0
 TheseAreAll = (m : Meaning) → IsListOfAll m (all_spellings m)
 
--- the least spelling that comes after a string is the first of that list which does, so that the list is gone through by
--- taking the least after the empty string, and then the least after each
+-- the least spelling that comes after a string is the first of that list which does, so that the list is gone through
+-- by taking the least after the empty string, and then the least after each
 abbrev pub NextIsListed : Type 0
 NextIsListed =
-    (m : Meaning) (all : List (List ℕ)) → IsListOfAll m all → (previous : List ℕ) (next : Option (List ℕ)) → IsNext m previous next
+    (m : Meaning) (all : List (List ℕ)) → IsListOfAll m all → (previous : List ℕ) (next : Option (List ℕ))
+    → IsNext m previous next
     → next ≡ find (is_before previous) all

@@ -21,12 +21,23 @@ use Rattle.vex_list.specs.declared.choices.AddressForm.{AddressForm}
 use Rattle.vex_list.specs.declared.choices.AddressForm.TheVariants.{WithoutSib, WithSib}
 use Rattle.vex_list.specs.declared.choices.Choices.{Choices}
 use Rattle.vex_list.specs.declared.choices.RowParts.{RowParts}
-use Rattle.vex_list.specs.Choices.{made, place_with, Allows, FormFits, r_fixed, x_fixed, b_fixed, v_fixed, lows_of, g_number, v_number, e_target, imm_operand}
+use Rattle.vex_list.specs.Choices.{made, place_with, Allows, FormFits, r_fixed, x_fixed, b_fixed, v_fixed, lows_of}
+use Rattle.vex_list.specs.Choices.{g_number, v_number, e_target, imm_operand}
 use Rattle.vex_list.specs.Next.{Either, Between, ByBit}
 
 -- the fields of a prefix by the parts
 abbrev pub seen_fields : RowParts → Choices → Fields
-seen_fields parts c = record { map = parts.map; pp = parts.pp; w = parts.w; l = bit parts.l; r = bit c.r; x = c.x; b = c.b; v = c.vvvv }
+seen_fields parts c = record {
+  map = parts.map;
+  pp = parts.pp;
+  w = parts.w;
+  l = bit parts.l;
+  r = bit c.r;
+  x = c.x;
+  b =
+      c.b;
+  v = c.vvvv;
+}
 
 -- the place of an address in a form
 abbrev pub address_place : AddressForm → Address → Place
@@ -70,7 +81,16 @@ with_x c x = record { form = c.form; r = c.r; x = x; b = c.b; vvvv = c.vvvv; add
 
 -- a choice with a prefix of two bytes, which has no X and no B
 abbrev pub in_two_bytes : Choices → Choices
-in_two_bytes c = record { form = TwoBytes; r = c.r; x = false; b = false; vvvv = c.vvvv; address = c.address; low = c.low }
+in_two_bytes c = record {
+  form = TwoBytes;
+  r = c.r;
+  x = false;
+  b = false;
+  vvvv = c.vvvv;
+  address = c.address;
+  low =
+      c.low;
+}
 
 module _ (row : Row) (m : Meaning) (parts : RowParts) where
   -- the bytes of one choice, and over the values of each part, from the last to the first

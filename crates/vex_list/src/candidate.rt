@@ -8,7 +8,8 @@ ghost use Rattle.vex_forms.specs.Fields.{fields_of};
 ghost use Rattle.vex_forms.specs.Operands.{target_seen};
 ghost use Rattle.vex_decode.specs.Fields.{prefix_bytes};
 ghost use Rattle.vex_decode.specs.Spelling.{imm_bytes};
-ghost use Rattle.vex_list.specs.Choices.{IsAddressForm, IsChoices, displacement_with, exponent_in, numbered_with, place_with, prefix_form};
+ghost use Rattle.vex_list.specs.Choices.{IsAddressForm, IsChoices, displacement_with, exponent_in, numbered_with};
+ghost use Rattle.vex_list.specs.Choices.{place_with, prefix_form};
 ghost use Rattle.vex_list.specs.Sets.{address_place, seen_fields};
 
 use crate::choices::{AddressForm, Choices, PrefixForm, RowParts, Width};
@@ -135,7 +136,8 @@ fn push_numbered(
     requires room { length bytes.old.items ≤ 4 }
     requires reg { reg < 8 }
     requires form { IsAddressForm form }
-    ensures bytes { bytes.new.items ≡ bytes.old.items ++ place_bytes reg (numbered_with form number (plain_index index) disp) }
+    ensures bytes { bytes.new.items ≡ bytes.old.items
+        ++ place_bytes reg (numbered_with form number (plain_index index) disp) }
     ensures short { length bytes.new.items ≤ length bytes.old.items + 6 }
 {
     match form {

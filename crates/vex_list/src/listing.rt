@@ -80,18 +80,21 @@ pub fn spelling_after(instruction: &Instruction, previous: &[u8]) -> Option<Spel
     ensures spells { IfSome result (λ next. Spells next instruction.now.meaning) }
     ensures after { IfSome result (λ next. Before previous.now next) }
     // No other spelling stands between.
-    ensures least { IfSome result (λ next. (bytes : List ℕ) → Spells bytes instruction.now.meaning → Before previous.now bytes → UpTo next bytes) }
-    ensures none { IsNone result ↔ ((bytes : List ℕ) → Spells bytes instruction.now.meaning → Before previous.now bytes → ⊥) }
+    ensures least { IfSome result (λ next. (bytes : List ℕ) → Spells bytes instruction.now.meaning
+        → Before previous.now bytes → UpTo next bytes) }
+    ensures none { IsNone result ↔ ((bytes : List ℕ) → Spells bytes instruction.now.meaning → Before previous.now bytes
+        → ⊥) }
     // In the list of all spellings, what comes after `previous` is the answer and what comes after that.
-    ensures listed { spellings_after instruction.now.meaning previous.now ≡ spellings_from instruction.now.meaning result }
+    ensures listed { spellings_after instruction.now.meaning previous.now
+        ≡ spellings_from instruction.now.meaning result }
 {
     // A law: the list has all.
     all_are_listed();
     next_spelling(instruction, previous)
 }
 
-/// The least spelling of the instruction's meaning, in the order of `spelling_after`. `None` comes exactly where no byte
-/// string spells it.
+/// The least spelling of the instruction's meaning, in the order of `spelling_after`. `None` comes exactly where no
+/// byte string spells it.
 pub fn first_spelling(instruction: &Instruction) -> Option<Spelling>
     ensures spells { IfSome result (λ first. Spells first instruction.now.meaning) }
     ensures least { IfSome result (λ first. (bytes : List ℕ) → Spells bytes instruction.now.meaning → UpTo first bytes) }

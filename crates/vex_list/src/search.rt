@@ -7,7 +7,8 @@ ghost use Rattle.vex_decode.specs.Spelling.{SpellsBy};
 ghost use Rattle.vex_rows.specs.Row.{IsRow, Row};
 ghost use Rattle.vex_list.specs.Choices.{IsChoices};
 ghost use Rattle.vex_list.specs.Next.{Covers};
-ghost use Rattle.vex_list.specs.Sets.{ByAddress, ByB, ByFreeVvvv, ByLow, ByR, BySib, ByTwo, ByVvvv, ByWidth, ByX, IsRowParts};
+ghost use Rattle.vex_list.specs.Sets.{ByAddress, ByB, ByFreeVvvv, ByLow, ByR, BySib, ByTwo, ByVvvv, ByWidth, ByX};
+ghost use Rattle.vex_list.specs.Sets.{IsRowParts};
 
 use crate::candidate::candidate;
 use crate::choices::{AddressForm, Choices, PrefixForm, RowParts, Width};
@@ -27,7 +28,8 @@ fn by_low(
 ) -> Option<Spelling>
     requires { IsChoices choices }
     ensures { (row : Row) → IsRowParts row instruction.now.meaning parts.now
-        → Covers instruction.now.meaning previous.now (ByLow row instruction.now.meaning parts.now choices) nearest result }
+        → Covers instruction.now.meaning previous.now (ByLow row instruction.now.meaning parts.now choices) nearest
+        result }
 {
     let mut nearest = nearest;
     for low in 0..parts.lows {
@@ -48,7 +50,8 @@ fn by_sib(
 ) -> Option<Spelling>
     requires { IsChoices choices }
     ensures { (row : Row) → IsRowParts row instruction.now.meaning parts.now
-        → Covers instruction.now.meaning previous.now (BySib row instruction.now.meaning parts.now width choices) nearest result }
+        → Covers instruction.now.meaning previous.now (BySib row instruction.now.meaning parts.now width choices)
+        nearest result }
 {
     let mut nearest = nearest;
     for exponent in 0..4 {
@@ -75,7 +78,8 @@ fn by_width(
 ) -> Option<Spelling>
     requires { IsChoices choices }
     ensures { (row : Row) → IsRowParts row instruction.now.meaning parts.now
-        → Covers instruction.now.meaning previous.now (ByWidth row instruction.now.meaning parts.now width choices) nearest result }
+        → Covers instruction.now.meaning previous.now (ByWidth row instruction.now.meaning parts.now width choices)
+        nearest result }
 {
     let address = AddressForm::WithoutSib(width);
     let nearest = by_low(
@@ -98,7 +102,8 @@ fn by_address(
 ) -> Option<Spelling>
     requires { IsChoices choices }
     ensures { (row : Row) → IsRowParts row instruction.now.meaning parts.now
-        → Covers instruction.now.meaning previous.now (ByAddress row instruction.now.meaning parts.now choices) nearest result }
+        → Covers instruction.now.meaning previous.now (ByAddress row instruction.now.meaning parts.now choices) nearest
+        result }
 {
     match parts.e {
         OperandE::Memory(_) => {
@@ -150,7 +155,8 @@ fn by_free_vvvv(
 ) -> Option<Spelling>
     requires { IsChoices choices }
     ensures { (row : Row) → IsRowParts row instruction.now.meaning parts.now
-        → Covers instruction.now.meaning previous.now (ByFreeVvvv row instruction.now.meaning parts.now choices) nearest result }
+        → Covers instruction.now.meaning previous.now (ByFreeVvvv row instruction.now.meaning parts.now choices)
+        nearest result }
 {
     let mut nearest = nearest;
     for inverted in 0..16 {
@@ -176,7 +182,8 @@ fn by_vvvv(
 ) -> Option<Spelling>
     requires { IsChoices choices }
     ensures { (row : Row) → IsRowParts row instruction.now.meaning parts.now
-        → Covers instruction.now.meaning previous.now (ByVvvv row instruction.now.meaning parts.now choices) nearest result }
+        → Covers instruction.now.meaning previous.now (ByVvvv row instruction.now.meaning parts.now choices) nearest
+        result }
 {
     match parts.vvvv {
         Some(vvvv) => by_address(
@@ -200,7 +207,8 @@ fn by_r(
 ) -> Option<Spelling>
     requires { IsChoices choices }
     ensures { (row : Row) → IsRowParts row instruction.now.meaning parts.now
-        → Covers instruction.now.meaning previous.now (ByR row instruction.now.meaning parts.now choices) nearest result }
+        → Covers instruction.now.meaning previous.now (ByR row instruction.now.meaning parts.now choices) nearest
+        result }
 {
     match parts.r {
         Some(r) => by_vvvv(
@@ -242,7 +250,8 @@ fn by_b(
 ) -> Option<Spelling>
     requires { IsChoices choices }
     ensures { (row : Row) → IsRowParts row instruction.now.meaning parts.now
-        → Covers instruction.now.meaning previous.now (ByB row instruction.now.meaning parts.now choices) nearest result }
+        → Covers instruction.now.meaning previous.now (ByB row instruction.now.meaning parts.now choices) nearest
+        result }
 {
     match parts.b {
         Some(b) => by_r(
@@ -284,7 +293,8 @@ fn by_x(
 ) -> Option<Spelling>
     requires { IsChoices choices }
     ensures { (row : Row) → IsRowParts row instruction.now.meaning parts.now
-        → Covers instruction.now.meaning previous.now (ByX row instruction.now.meaning parts.now choices) nearest result }
+        → Covers instruction.now.meaning previous.now (ByX row instruction.now.meaning parts.now choices) nearest
+        result }
 {
     match parts.x {
         Some(x) => by_b(
@@ -326,7 +336,8 @@ fn by_two(
 ) -> Option<Spelling>
     requires { IsChoices choices }
     ensures { (row : Row) → IsRowParts row instruction.now.meaning parts.now
-        → Covers instruction.now.meaning previous.now (ByTwo row instruction.now.meaning parts.now choices) nearest result }
+        → Covers instruction.now.meaning previous.now (ByTwo row instruction.now.meaning parts.now choices) nearest
+        result }
 {
     if parts.w || parts.map != Map::Map0F {
         return nearest;

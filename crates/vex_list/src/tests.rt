@@ -34,8 +34,8 @@ fn cases() -> [Case; 11] {
         counted(&[0xC5, 0xF2, 0x58, 0xC2], 10, &[0xC4, 0xA1, 0x72, 0x58, 0xC2], &[0xC5, 0xF6, 0x58, 0xC2]),
         // A move from register to register has two opcode bytes, with 5 each.
         counted(&[0xC5, 0xF8, 0x28, 0xC1], 10, &[0xC4, 0xA1, 0x78, 0x28, 0xC1], &[0xC5, 0xF8, 0x29, 0xC8]),
-        // The base q0 alone. Without SIB there are 3 widths of the displacement 0, with SIB 4 scales of no index as well.
-        // After C4 X is free without SIB: 2 W times (2 * 3 + 3 * 4); after C5 it is 0: 3 + 3 * 4.
+        // The base q0 alone. Without SIB there are 3 widths of the displacement 0, with SIB 4 scales of no index as
+        // well. After C4 X is free without SIB: 2 W times (2 * 3 + 3 * 4); after C5 it is 0: 3 + 3 * 4.
         counted(&[0xC5, 0xF0, 0x58, 0x00], 51,
             &[0xC4, 0xA1, 0x70, 0x58, 0x00], &[0xC5, 0xF0, 0x58, 0x84, 0xE0, 0, 0, 0, 0]),
         // q0 + q1 * 4: X, B and the scale are fixed. 3 widths, after C4 with 2 W, and after C5.

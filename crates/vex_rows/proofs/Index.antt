@@ -1,5 +1,7 @@
 -- The cells of the direct index agree with the table.
-use Rattle.std.proofs.Common.{◌≡◌, ◌≢◌, ℕ, suc, ◌<◌, ◌+◌, nat_lt, Bool, true, false, ◌&&◌, ◌==◌, List, [], ◌∷◌, ◌++◌, flat_map, Option, Some, None, length, slice_get, refl, sym, ap, subst, ◌∙◌, arith, inl, inr, eqb-true, ne_eqb, ltb-true}
+use Rattle.std.proofs.Common.{◌≡◌, ◌≢◌, ℕ, suc, ◌<◌, ◌+◌, nat_lt, Bool, true, false, ◌&&◌, ◌==◌, List, [], ◌∷◌, ◌++◌}
+use Rattle.std.proofs.Common.{flat_map, Option, Some, None, length, slice_get, refl, sym, ap, subst, ◌∙◌, arith, inl}
+use Rattle.std.proofs.Common.{inr, eqb-true, ne_eqb, ltb-true}
 use Rattle.vex_rows.specs.declared.entry.Entry.{Entry}
 use Rattle.vex_rows.specs.declared.key.Key.{Key}
 use Rattle.vex_rows.specs.declared.key.Map.{Map}
@@ -12,7 +14,8 @@ use Rattle.vex_rows.specs.Row.{Among}
 use Rattle.vex_rows.specs.Rules.{allows, has_key, map_number, pp_number}
 use Rattle.vex_rows.specs.Table.{table}
 use Rattle.vex_rows.specs.Table.Lemmas.{from-has_key}
-use Rattle.vex_rows.specs.Row.Lists.{both-parts, parts-both, none-append, none-flat_map, wrong, right, below, among-below, among_bits}
+use Rattle.vex_rows.specs.Row.Lists.{both-parts, parts-both, none-append, none-flat_map, wrong, right, below}
+use Rattle.vex_rows.specs.Row.Lists.{among-below, among_bits}
 
 -- a key of an opcode map and an implied prefix
 abbrev key_at : Map → Pp → ℕ → Bool → Bool → Key
@@ -22,10 +25,12 @@ key_at map pp byte w l = record { map = map; pp = pp; byte = byte; w = w; l = l 
 
 -- whether the cell of an entry's key at a W and an L holds a place, where its rules allow them
 unfoldable holds : ℕ → Entry → Bool → Bool → Bool
-holds place entry w l = elim (allows entry.w w && allows entry.l l) [ true ↦ cell_of (key_at entry.map entry.pp entry.byte w l) == place | false ↦ true ]
+holds place entry w l = elim (allows entry.w w && allows entry.l l)
+    [ true ↦ cell_of (key_at entry.map entry.pp entry.byte w l) == place | false ↦ true ]
 
 unfoldable all_hold : ℕ → Entry → Bool
-all_hold place entry = (holds place entry false false && holds place entry false true) && (holds place entry true false && holds place entry true true)
+all_hold place entry = (holds place entry false false && holds place entry false true) &&
+    (holds place entry true false && holds place entry true true)
 
 -- the entries, counted from a place, of which some cell holds another place
 unfoldable unplaced : ℕ → List Entry → List Entry
@@ -36,7 +41,8 @@ none_unplaced : unplaced 0 table ≡ []
 unfolding table unplaced all_hold holds cell_of cells_of
 none_unplaced = refl
 
-each : (p : Bool → Bool → Bool) → ((p false false && p false true) && (p true false && p true true)) ≡ true → (w l : Bool) → p w l ≡ true
+each : (p : Bool → Bool → Bool) → ((p false false && p false true) && (p true false && p true true)) ≡ true
+    → (w l : Bool) → p w l ≡ true
 each p h false false = (both-parts (p false false) _ (both-parts (p false false && p false true) _ h).0).0
 each p h false true = (both-parts (p false false) _ (both-parts (p false false && p false true) _ h).0).1
 each p h true false = (both-parts (p true false) _ (both-parts (p false false && p false true) _ h).1).0
@@ -48,17 +54,20 @@ record Placed (entries : List Entry) (first : ℕ) (entry : Entry) : Type 0 wher
   below : place < first + length entries
   held : all_hold place entry ≡ true
 
-placed : (first : ℕ) (entries : List Entry) → unplaced first entries ≡ [] → (entry : Entry) → Among entry entries → Placed entries first entry
+placed : (first : ℕ) (entries : List Entry) → unplaced first entries ≡ [] → (entry : Entry) → Among entry entries
+    → Placed entries first entry
 unfolding unplaced
 placed first [] none entry m = absurd m
 placed first (e ∷ entries) none entry (inl same) =
     record {
       place = first;
       below = omega arith;
-      held = subst (λ x. all_hold first x ≡ true) (sym same) (right (all_hold first e) e (none-append (wrong (all_hold first e) e) (unplaced (suc first) entries) none).0);
+      held = subst (λ x. all_hold first x ≡ true) (sym same)
+          (right (all_hold first e) e (none-append (wrong (all_hold first e) e) (unplaced (suc first) entries) none).0);
     }
 placed first (e ∷ entries) none entry (inr m) =
-    let later = placed (suc first) entries (none-append (wrong (all_hold first e) e) (unplaced (suc first) entries) none).1 entry m in
+    let later = placed (suc first) entries
+    (none-append (wrong (all_hold first e) e) (unplaced (suc first) entries) none).1 entry m in
     record { place = later.place; below = (let b = later.below in omega arith); held = later.held }
 
 take_true : (b c : Bool) → b ≡ true → (elim b [ true ↦ c | false ↦ true ]) ≡ true → c ≡ true
@@ -100,7 +109,8 @@ unfolding holds all_hold
 cell-place entry m key h =
     let at = placed 0 table none_unplaced entry m in
     let parts = from-has_key entry key h in
-    let held = take_true (allows entry.w key.w && allows entry.l key.l) _ (parts-both _ _ parts.w parts.l) (each (holds at.place entry) at.held key.w key.l) in
+    let held = take_true (allows entry.w key.w && allows entry.l key.l) _ (parts-both _ _ parts.w parts.l)
+    (each (holds at.place entry) at.held key.w key.l) in
     let same_key : key_at entry.map entry.pp entry.byte key.w key.l ≡ key =
     ap (λ map. key_at map entry.pp entry.byte key.w key.l) (same_map entry.map key.map parts.map)
     ∙ ap (λ pp. key_at key.map pp entry.byte key.w key.l) (same_pp entry.pp key.pp parts.pp)
@@ -111,7 +121,11 @@ cell-place entry m key h =
 -- ---- a cell that isn't empty names an entry that has its key
 
 unfoldable names : ℕ → Key → Bool
-names cell key = elim (cell == 65535) [ true ↦ true | false ↦ elim (slice_get table cell) [ Some entry ↦ has_key entry key | None ↦ false ] ]
+names cell key = elim (cell == 65535) [
+  | true ↦ true
+  | false ↦ elim (slice_get table cell)
+      [ Some entry ↦ has_key entry key | None ↦ false ]
+]
 
 -- a key whose cell names an entry that doesn't have it
 abbrev misnamed_key : Key → List Key
@@ -193,21 +207,28 @@ past : (b c : Bool) → b ≡ false → (elim b [ true ↦ true | false ↦ c ])
 past true c h k = cc
 past false c h k = k
 
-entry_case : (o : Option Entry) (key : Key) → (elim o [ Some entry ↦ has_key entry key | None ↦ false ]) ≡ true → (entry : Entry) × (o ≡ Some entry) × (has_key entry key ≡ true)
+entry_case : (o : Option Entry) (key : Key) → (elim o [ Some entry ↦ has_key entry key | None ↦ false ]) ≡ true
+    → (entry : Entry) × (o ≡ Some entry) × (has_key entry key ≡ true)
 entry_case None key h = cc
 entry_case (Some entry) key h = (entry, refl, h)
 
-names-entry : (cell : ℕ) (key : Key) → names cell key ≡ true → cell ≢ 65535 → (entry : Entry) × (slice_get table cell ≡ Some entry) × (has_key entry key ≡ true)
+names-entry : (cell : ℕ) (key : Key) → names cell key ≡ true → cell ≢ 65535
+    → (entry : Entry) × (slice_get table cell ≡ Some entry) × (has_key entry key ≡ true)
 unfolding names
-names-entry cell key h filled = entry_case (slice_get table cell) key (past (cell == 65535) _ (ne_eqb cell 65535 filled) h)
+names-entry cell key h filled = entry_case (slice_get table cell) key
+    (past (cell == 65535) _ (ne_eqb cell 65535 filled) h)
 
 -- the entry that a cell names has the key
-pub found_at : (key : Key) → key.byte < 256 → cell_of key ≢ 65535 → (entry : Entry) × (slice_get table (cell_of key) ≡ Some entry) × (has_key entry key ≡ true)
+pub found_at : (key : Key) → key.byte < 256 → cell_of key ≢ 65535
+    → (entry : Entry) × (slice_get table (cell_of key) ≡ Some entry) × (has_key entry key ≡ true)
 unfolding misnamed
 found_at key byte filled =
-    let of_byte = none-flat_map (misnamed_byte key.map key.pp) key.byte (below 256) (none_misnamed key.map key.pp) (among-below key.byte 256 byte) in
-    let of_w = none-flat_map (misnamed_at key.map key.pp key.byte) key.w (false ∷ true ∷ []) of_byte (among_bits key.w) in
-    let of_key = none-flat_map (λ l. misnamed_key (key_at key.map key.pp key.byte key.w l)) key.l (false ∷ true ∷ []) of_w (among_bits key.l) in
+    let of_byte = none-flat_map (misnamed_byte key.map key.pp) key.byte (below 256) (none_misnamed key.map key.pp)
+    (among-below key.byte 256 byte) in
+    let of_w = none-flat_map (misnamed_at key.map key.pp key.byte) key.w (false ∷ true ∷ []) of_byte (among_bits key.w)
+    in
+    let of_key = none-flat_map (λ l. misnamed_key (key_at key.map key.pp key.byte key.w l)) key.l (false ∷ true ∷ [])
+    of_w (among_bits key.l) in
     names-entry (cell_of key) key (right (names (cell_of key) key) key of_key) filled
 
 -- ---- the table has fewer places than a cell has values

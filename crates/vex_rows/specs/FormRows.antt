@@ -7,9 +7,12 @@ use Rattle.vex_rows.specs.declared.form.Form.{Form}
 use Rattle.vex_rows.specs.declared.form_row.ByteCount.{ByteCount}
 use Rattle.vex_rows.specs.declared.form_row.FormRow.{FormRow}
 use Rattle.vex_rows.specs.declared.form_row.SizeList.{SizeList}
-use Rattle.vex_rows.specs.declared.form_row.SizeList.TheVariants.{Extract, Insert, Store, Load, Convert, Widen, Broadcast, Scalar, ScalarImmediate, Half, Move, Gather}
+use Rattle.vex_rows.specs.declared.form_row.SizeList.TheVariants.{Extract, Insert, Store, Load, Convert, Widen}
+use Rattle.vex_rows.specs.declared.form_row.SizeList.TheVariants.{Broadcast, Scalar, ScalarImmediate, Half, Move}
+use Rattle.vex_rows.specs.declared.form_row.SizeList.TheVariants.{Gather}
 use Rattle.vex_rows.specs.declared.forms.TheConstants.{FORMS, ALONE}
-use Rattle.vex_rows.specs.declared.sizes.TheConstants.{EXTRACT, INSERT, STORE, LOAD, CONVERT, WIDEN, BROADCAST, SCALAR, SCALAR_IMMEDIATE, HALF, MOVE, GATHER}
+use Rattle.vex_rows.specs.declared.sizes.TheConstants.{EXTRACT, INSERT, STORE, LOAD, CONVERT, WIDEN, BROADCAST, SCALAR}
+use Rattle.vex_rows.specs.declared.sizes.TheConstants.{SCALAR_IMMEDIATE, HALF, MOVE, GATHER}
 
 -- what the table of forms says of a form: the row at its place
 unfoldable pub form_row : Form → FormRow

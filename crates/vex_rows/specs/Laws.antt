@@ -16,7 +16,8 @@ use Rattle.vex_rows.specs.WellFormed.{is_orderly, checks_address, out_of_order}
 
 -- two entries of the table that have one key are one
 abbrev pub KeysAreApart : Type 0
-KeysAreApart = (a b : Entry) (key : Key) → Among a table → Among b table → has_key a key ≡ true → has_key b key ≡ true → a ≡ b
+KeysAreApart = (a b : Entry) (key : Key) → Among a table → Among b table → has_key a key ≡ true → has_key b key ≡ true
+    → a ≡ b
 
 -- the entries stand in table order
 abbrev pub TableIsInOrder : Type 0
@@ -28,7 +29,8 @@ RowsHaveEntries = (row : Row) → IsRow row → Among row.entry (entries_with (o
 
 -- an entry of an opcode stands in the table and has a row that gives the opcode
 abbrev pub EntriesHaveRows : Type 0
-EntriesHaveRows = (entry : Entry) (opcode : Opcode) → Among entry (entries_with opcode) → Among entry table × ((row : Row) × IsRow row × (row.entry ≡ entry) × (same_opcode (opcode_of row) opcode ≡ true))
+EntriesHaveRows = (entry : Entry) (opcode : Opcode) → Among entry (entries_with opcode)
+    → Among entry table × ((row : Row) × IsRow row × (row.entry ≡ entry) × (same_opcode (opcode_of row) opcode ≡ true))
 
 -- each row of the table of forms is that of the form which it names
 abbrev pub FormsAreInOrder : Type 0

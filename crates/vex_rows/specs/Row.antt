@@ -1,6 +1,7 @@
 pub mod Lists
 pub mod Lemmas
-use Rattle.std.specs.Prelude.{◌≡◌, ◌⊎◌, ℕ, Bool, true, false, not, ◌&&◌, ◌==◌, List, [], ◌∷◌, ◌++◌, map, filter, flat_map, Option, Some, None, if◌then◌else◌}
+use Rattle.std.specs.Prelude.{◌≡◌, ◌⊎◌, ℕ, Bool, true, false, not, ◌&&◌, ◌==◌, List, [], ◌∷◌, ◌++◌, map, filter}
+use Rattle.std.specs.Prelude.{flat_map, Option, Some, None, if◌then◌else◌}
 use Rattle.std.specs.List.{list_all, list_any}
 use Rattle.x86_opcode.specs.declared.Opcode.{Opcode}
 use Rattle.x86_operand.specs.Kind.{Kind, WithoutModRM, InRegister, InMemory, VectorIndexed, memory_kind}
@@ -98,7 +99,8 @@ opcode_of row = opcode_by (form_row row.entry.form).opcodes row
 unfoldable pub exists : Row → Bool
 exists row =
     allows row.entry.w row.w && allows row.entry.l (row.l == 1)
-    && list_all (permits_choice row) ((steps row.entry.form).before_modrm ++ (steps row.entry.form).after_modrm ++ (steps row.entry.form).after_address)
+    && list_all (permits_choice row) ((steps row.entry.form).before_modrm ++ (steps row.entry.form).after_modrm
+    ++ (steps row.entry.form).after_address)
 
 -- the kinds that a form may have: its address has a vector register as its index where it gathers
 abbrev pub kinds_of : Form → List Kind

@@ -1,5 +1,6 @@
 -- What the forms and the table must be for the laws of spellings: tests that are computed.
-use Rattle.std.specs.Prelude.{nat_lt, ℕ, Bool, true, false, not, ◌&&◌, ◌||◌, ◌==◌, List, [], ◌∷◌, ◌++◌, map, filter, if◌then◌else◌}
+use Rattle.std.specs.Prelude.{nat_lt, ℕ, Bool, true, false, not, ◌&&◌, ◌||◌, ◌==◌, List, [], ◌∷◌, ◌++◌, map, filter}
+use Rattle.std.specs.Prelude.{if◌then◌else◌}
 use Rattle.std.specs.List.{list_all, list_any}
 use Rattle.vex_rows.specs.declared.entry.Entry.{Entry}
 use Rattle.vex_rows.specs.declared.entry.Rule.{Rule}
@@ -18,7 +19,8 @@ agree _ _ = true
 -- whether two entries have a key in common
 abbrev pub share_key : Entry → Entry → Bool
 share_key a b =
-    a.byte == b.byte && map_number a.map == map_number b.map && pp_number a.pp == pp_number b.pp && agree a.w b.w && agree a.l b.l
+    a.byte == b.byte && map_number a.map == map_number b.map && pp_number a.pp == pp_number b.pp && agree a.w b.w &&
+    agree a.l b.l
 
 -- the pairs of entries that have a key in common
 abbrev pub clashes : List Entry → List (Entry × Entry)
@@ -44,7 +46,8 @@ comes_before (x ∷ xs) (y ∷ ys) = nat_lt x y || (x == y && comes_before xs ys
 -- the entries that don't come after the entry before them, which is `last` for the first
 abbrev pub out_of_order_after : Entry → List Entry → List Entry
 out_of_order_after last [] = []
-out_of_order_after last (entry ∷ entries) = (if comes_before (order_of last) (order_of entry) then [] else entry ∷ []) ++ out_of_order_after entry entries
+out_of_order_after last (entry ∷ entries) =
+    (if comes_before (order_of last) (order_of entry) then [] else entry ∷ []) ++ out_of_order_after entry entries
 
 -- the entries that don't come after the entry before them
 abbrev pub out_of_order : List Entry → List Entry
@@ -94,7 +97,8 @@ is_none _ = false
 -- register
 abbrev pub is_orderly : FormSteps → Bool
 is_orderly form =
-    list_all is_prefix_check form.before_modrm && list_all is_modrm_check form.after_modrm && list_all is_late_check form.after_address
+    list_all is_prefix_check form.before_modrm && list_all is_modrm_check form.after_modrm && list_all is_late_check
+    form.after_address
     && (if form.modrm then form.address || list_any is_register_check form.after_modrm
     else is_none form.after_modrm && is_none form.after_address && not form.address)
 

@@ -1,5 +1,5 @@
-//! The entries of the VEX opcode maps as plain data, and the look-up of the one entry of a key; the forms of operands as
-//! data, one row for each.
+//! The entries of the VEX opcode maps as plain data, and the look-up of the one entry of a key; the forms of operands
+//! as data, one row for each.
 //!
 //! ```
 //! use vex_rows::{Entry, Key, Map, Pp, lookup, row_of_form};

@@ -1,9 +1,9 @@
 //! The entries in table order: by map, implied prefix, byte, W rule and L rule.
 //!
 //! A line has what the manual's line of an instruction has (Intel SDM volume 2, section 3.1.1.2): the opcode map and
-//! the implied prefix, the opcode byte, the rules of W and of L, the form of the operands, and the mnemonic. The rule of
-//! W is `Any` for WIG, and that of L is `Any` for LIG and where one line stands for both vector lengths. The opcode is
-//! `Invalid` where the field reg or the kind of operand decides.
+//! the implied prefix, the opcode byte, the rules of W and of L, the form of the operands, and the mnemonic. The rule
+//! of W is `Any` for WIG, and that of L is `Any` for LIG and where one line stands for both vector lengths. The opcode
+//! is `Invalid` where the field reg or the kind of operand decides.
 
 use crate::entry::{Entry, Rule};
 use crate::form::Form;

@@ -161,8 +161,8 @@ fn opcodes_have_their_entries(rt: HostRuntime) -> Result<(), Fail> {
     Ok(())
 }
 
-// The steps of each form: the checks before ModRM, whether there is a ModRM byte, the checks after it, whether an address
-// is read, the checks after it, and whether there is an immediate byte.
+// The steps of each form: the checks before ModRM, whether there is a ModRM byte, the checks after it, whether an
+// address is read, the checks after it, and whether there is an immediate byte.
 static STEPS: [(&[Form], &[Check], bool, &[Check], bool, &[Check], bool); 17] = [
     (&[Form::Nothing], &[V0], false, &[], false, &[], false),
     (

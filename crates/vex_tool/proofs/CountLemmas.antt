@@ -1,5 +1,6 @@
 -- The number of spellings that a word asks for, by what `parse` reads of it.
-use Rattle.std.proofs.Common.{◌≡◌, ℕ, ◌^◌, ◌<◌, ◌≤◌, ◌&&◌, Bool, true, false, nat_le, List, decimal, bytes_eq, Some, None, Result, Ok, Err, sym, ap, subst, ◌∙◌, refl, arith, if◌then◌else◌}
+use Rattle.std.proofs.Common.{◌≡◌, ℕ, ◌^◌, ◌<◌, ◌≤◌, ◌&&◌, Bool, true, false, nat_le, List, decimal, bytes_eq, Some}
+use Rattle.std.proofs.Common.{None, Result, Ok, Err, sym, ap, subst, ◌∙◌, refl, arith, if◌then◌else◌}
 use Rattle.std.specs.Str.Parse.{AllDigits, ParsesUnsigned, digits_value}
 use Rattle.std.proofs.lemmas.Bool.Decides.{nat_tests}
 use Rattle.std.proofs.lemmas.Fmt.{digits_value-decimal, parse-decimal}
@@ -36,7 +37,8 @@ pub count-written : (word : List ℕ) (n : ℕ) → 1 ≤ n → n ≤ 1000000 �
 unfolding count_of
 count-written word n h k e =
     ap (count_written word) (ap (digits_value 10) e ∙ value n (omega arith))
-    ∙ passed (nat_le 1 n) (nat_le n 1000000) (bytes_eq word (decimal n)) n (at-least 1 n h) (at-least n 1000000 k) ((bytes_eq-Decides word (decimal n)).1 e)
+    ∙ passed (nat_le 1 n) (nat_le n 1000000) (bytes_eq word (decimal n)) n (at-least 1 n h) (at-least n 1000000 k)
+    ((bytes_eq-Decides word (decimal n)).1 e)
 
 -- a word of which `parse` reads none that it writes
 pub count-refused : {E : Type 0} (word : List ℕ) (r : Result ℕ E) → ParsesUnsigned 32 10 word r
@@ -76,15 +78,18 @@ count-read word r n parsed is = by (writes word n) refl where
   by true e =
       let tests = all-passed (nat_le 1 n) (nat_le n 1000000) (bytes_eq word (decimal n)) e in
       ap (λ t. if t then Some n else None) e
-      ∙ sym (count-written word n (from-test 1 n tests.0) (from-test n 1000000 tests.1) ((bytes_eq-Decides word (decimal n)).0 tests.2))
+      ∙ sym (count-written word n (from-test 1 n tests.0) (from-test n 1000000 tests.1)
+      ((bytes_eq-Decides word (decimal n)).0 tests.2))
   by false e =
       ap (λ t. if t then Some n else None) e
       ∙ sym (count-refused word r parsed (λ m low high written read.
       let same : m ≡ n = cc in
-      let all : writes word m ≡ true = all-pass (nat_le 1 m) (nat_le m 1000000) (bytes_eq word (decimal m)) (at-least 1 m low) (at-least m 1000000 high) ((bytes_eq-Decides word (decimal m)).1 written) in
+      let all : writes word m ≡ true = all-pass (nat_le 1 m) (nat_le m 1000000) (bytes_eq word (decimal m))
+      (at-least 1 m low) (at-least m 1000000 high) ((bytes_eq-Decides word (decimal m)).1 written) in
       let again : writes word n ≡ true = subst (λ k. writes word k ≡ true) same all in
       cc))
 
 -- a word of which it reads none
-pub count-unread : {E : Type 0} (word : List ℕ) (r : Result ℕ E) (error : E) → ParsesUnsigned 32 10 word r → r ≡ Err error → count_of word ≡ None
+pub count-unread : {E : Type 0} (word : List ℕ) (r : Result ℕ E) (error : E) → ParsesUnsigned 32 10 word r
+    → r ≡ Err error → count_of word ≡ None
 count-unread word r error parsed is = count-refused word r parsed (λ m low high written read. cc)

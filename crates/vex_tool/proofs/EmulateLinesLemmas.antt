@@ -1,12 +1,14 @@
 -- Bytes that count up, the machine at the start of a line, and the lines of what a run changes.
-use Rattle.std.proofs.Common.{◌≡◌, ℕ, ◌+◌, ◌-◌, ◌*◌, ◌%◌, ◌<◌, ◌≤◌, Bool, true, false, List, [], ◌∷◌, ◌++◌, length, get_or, take, drop, map, zero, suc, ap, sym, ◌∙◌, refl, arith, slice_set, append_assoc}
+use Rattle.std.proofs.Common.{◌≡◌, ℕ, ◌+◌, ◌-◌, ◌*◌, ◌%◌, ◌<◌, ◌≤◌, Bool, true, false, List, [], ◌∷◌, ◌++◌, length}
+use Rattle.std.proofs.Common.{get_or, take, drop, map, zero, suc, ap, sym, ◌∙◌, refl, arith, slice_set, append_assoc}
 use Rattle.std.specs.Prelude.{bytes_eq, codes, decimal, flat_map, slice_index_or, if◌then◌else◌, Result, Ok, Err}
 use Rattle.std.specs.Io.KnownBytes.{Appends}
 use Rattle.std.specs.List.{range_with_len}
 use Rattle.std.specs.Simd.Lanes.{chunk}
 use Rattle.std.proofs.Math.Seq.{set-append_seam, take-length, drop-length}
 use Rattle.std.proofs.lemmas.List.{append-nil, drop_more}
-use Rattle.std.proofs.lemmas.List.FromFn.{get_or-range_with_len, length-range_with_len, length-map-range_with_len, map-range_with_len_more, take-map-range_with_len}
+use Rattle.std.proofs.lemmas.List.FromFn.{get_or-range_with_len, length-range_with_len, length-map-range_with_len}
+use Rattle.std.proofs.lemmas.List.FromFn.{map-range_with_len_more, take-map-range_with_len}
 use Rattle.hex.specs.Hex.{encode_lower}
 use Rattle.vex_emul.specs.Machine.{State, start_of}
 use Rattle.vex_emul.specs.Run.{ran}
@@ -15,7 +17,9 @@ use Rattle.vex_tool.specs.Ends.{AppendsFront, RoseOrIsLast, Writes}
 use Rattle.vex_tool.proofs.EndsLemmas.{Writes-all, Writes-fault}
 use Rattle.vex_tool.proofs.FeedLemmas.{Told}
 use Rattle.vex_tool.proofs.WrittenLines.{Wrote, Wrote-fault, Wrote-step, split-item, take-item}
-use Rattle.vex_tool.specs.EmulateLines.{block_line, block_lines, changed_line, counting, emulate_lines, numbers, outcome_lines, ran_line, start, start_memory, start_vector, vector_line, vector_lines}
+use Rattle.vex_tool.specs.EmulateLines.{block_line, block_lines, changed_line, counting, emulate_lines, numbers}
+use Rattle.vex_tool.specs.EmulateLines.{outcome_lines, ran_line, start, start_memory, start_vector, vector_line}
+use Rattle.vex_tool.specs.EmulateLines.{vector_lines}
 
 -- ---- bytes that count up
 
@@ -31,7 +35,8 @@ counting-more : (first n : ℕ) → counting first (n + 1) ≡ counting first n 
 unfolding counting
 counting-more first n = map-range_with_len_more (λ k. k % 256) first n (first + n) refl
 
-set-seam : {A : Type 0} (xs : List A) (y : A) (ys : List A) (i : ℕ) (a : A) → length xs ≡ i → slice_set (xs ++ y ∷ ys) i a ≡ xs ++ a ∷ ys
+set-seam : {A : Type 0} (xs : List A) (y : A) (ys : List A) (i : ℕ) (a : A) → length xs ≡ i
+    → slice_set (xs ++ y ∷ ys) i a ≡ xs ++ a ∷ ys
 set-seam xs y ys i a is = ap (λ n. slice_set (xs ++ y ∷ ys) n a) (sym is) ∙ set-append_seam xs y ys a
 
 -- a byte more
@@ -44,7 +49,8 @@ counted first i bytes initial below is =
     ∙ sym (append_assoc (counting first i) (next ∷ []) (drop (i + 1) initial))
     ∙ ap (λ t. t ++ drop (i + 1) initial) (sym (counting-more first i))
 
-pub counted-all : (first i : ℕ) (bytes initial : List ℕ) → bytes ≡ counting first i ++ drop i initial → i ≡ length initial
+pub counted-all : (first i : ℕ) (bytes initial : List ℕ) → bytes ≡ counting first i ++ drop i initial
+    → i ≡ length initial
     → bytes ≡ counting first (length initial)
 counted-all first i bytes initial is ended =
     is
@@ -79,7 +85,12 @@ chunk-counting place n all h =
 
 -- the state with one more register of each kind set
 abbrev set_up : State → ℕ → State
-set_up s i = record { vectors = slice_set s.vectors i (start_vector i); q = slice_set s.q i (32 * i); memory = s.memory }
+set_up s i = record {
+  vectors = slice_set s.vectors i (start_vector i);
+  q = slice_set s.q i (32 * i);
+  memory =
+      s.memory;
+}
 
 -- the state with so many registers of each kind set
 pub started : ℕ → State
@@ -94,15 +105,18 @@ started-none reset memory lent filled is long lends counts =
     let all : length lent ≡ 1024 = ap length (lends ∙ ap (λ (s : State). s.memory) is) ∙ long in
     ap (λ (s : State). record s { memory = filled }) is ∙ ap start_of (counts ∙ ap (counting 0) all)
 
-pub started-more : (i : ℕ) (old mid new : State) (n : ℕ) (vector : List ℕ) (m : ℕ) → old ≡ started i → n ≡ i → vector ≡ counting (16 * n) 32 → m ≡ i
-    → mid ≡ record old { vectors = slice_set old.vectors i vector } → new ≡ record mid { q = slice_set mid.q i (32 * m) } → new ≡ started (i + 1)
+pub started-more : (i : ℕ) (old mid new : State) (n : ℕ) (vector : List ℕ) (m : ℕ) → old ≡ started i → n ≡ i
+    → vector ≡ counting (16 * n) 32 → m ≡ i
+    → mid ≡ record old { vectors = slice_set old.vectors i vector }
+    → new ≡ record mid { q = slice_set mid.q i (32 * m) } → new ≡ started (i + 1)
 unfolding started
 started-more i old mid new n vector m is same counts also one two =
     let more : suc i ≡ i + 1 = omega arith in
     two
     ∙ ap (λ (k : ℕ). record mid { q = slice_set mid.q i (32 * k) }) also
     ∙ ap (λ (s : State). record s { q = slice_set s.q i (32 * i) }) one
-    ∙ ap (λ (v : List ℕ). record old { vectors = slice_set old.vectors i v; q = slice_set old.q i (32 * i) }) (counts ∙ ap (λ k. counting (16 * k) 32) same)
+    ∙ ap (λ (v : List ℕ). record old { vectors = slice_set old.vectors i v; q = slice_set old.q i (32 * i) })
+    (counts ∙ ap (λ k. counting (16 * k) 32) same)
     ∙ ap (λ (s : State). set_up s i) is
     ∙ ap started more
 
@@ -159,7 +173,8 @@ module _ (line : ℕ → List ℕ) (n i : ℕ) (first now : Told) (wrote : Wrote
       let ended : i ≡ n = omega (arith, over, within) in
       Writes-all result x _ _ _ _ _ is (rw (take-numbers n i ended) at wrote.written) wrote.quiet
 
-pub changed-not : (letter : List ℕ) (number : ℕ) (bytes first : List ℕ) → bytes_eq bytes first ≡ true → changed_line letter number bytes first ≡ []
+pub changed-not : (letter : List ℕ) (number : ℕ) (bytes first : List ℕ) → bytes_eq bytes first ≡ true
+    → changed_line letter number bytes first ≡ []
 unfolding changed_line
 changed-not letter number bytes first e =
     ap (λ (b : Bool). if b then [] else letter ++ decimal number ++ codes " " ++ encode_lower bytes ++ codes "\n") e
@@ -171,7 +186,8 @@ changed letter number bytes first e =
     ap (λ (b : Bool). if b then [] else letter ++ decimal number ++ codes " " ++ encode_lower bytes ++ codes "\n") e
 
 -- the line of a vector and of a block, by what the code compares
-pub vector-is : (vectors : List (List ℕ)) (i number : ℕ) (bytes first : List ℕ) → number ≡ i → bytes ≡ slice_index_or vectors i []
+pub vector-is : (vectors : List (List ℕ)) (i number : ℕ) (bytes first : List ℕ) → number ≡ i
+    → bytes ≡ slice_index_or vectors i []
     → first ≡ counting (16 * number) 32 → changed_line (codes "y") number bytes first ≡ vector_line vectors i
 vector-is vectors i number bytes first same these start =
     ap (λ f. changed_line (codes "y") number bytes f) start
@@ -181,7 +197,8 @@ vector-is vectors i number bytes first same these start =
 pub block-is : (memory : List ℕ) (b : ℕ) (bytes first : List ℕ) → b < 32 → bytes ≡ chunk (32 * b) 32 memory
     → first ≡ counting (32 * b) 32 → changed_line (codes "m") (32 * b) bytes first ≡ block_line memory b
 block-is memory b bytes first below these start =
-    ap (λ f. changed_line (codes "m") (32 * b) bytes f) (start ∙ sym (chunk-counting (32 * b) 32 1024 (omega (arith, below))))
+    ap (λ f. changed_line (codes "m") (32 * b) bytes f)
+    (start ∙ sym (chunk-counting (32 * b) 32 1024 (omega (arith, below))))
     ∙ ap (λ bs. changed_line (codes "m") (32 * b) bs (chunk (32 * b) 32 start_memory)) these
 
 -- all lines of a run

@@ -1,12 +1,14 @@
 -- A piece of the input, byte by byte.
-use Rattle.std.proofs.Common.{◌≡◌, ℕ, ◌+◌, ◌<◌, List, [], ◌∷◌, ◌++◌, length, get_or, take, drop, Option, Err, append_assoc, sym, subst, ap, ◌∙◌, refl, inl, inr}
+use Rattle.std.proofs.Common.{◌≡◌, ℕ, ◌+◌, ◌<◌, List, [], ◌∷◌, ◌++◌, length, get_or, take, drop, Option, Err}
+use Rattle.std.proofs.Common.{append_assoc, sym, subst, ap, ◌∙◌, refl, inl, inr}
 use Rattle.std.specs.Prelude.{IsSomeAnd}
 use Rattle.std.proofs.lemmas.List.{append-nil, take-append-drop, take_more}
 use Rattle.std.specs.Io.KnownBytes.{Appends, Keeps}
 use Rattle.vex_tool.specs.declared.halt.Halt.{Halt}
 use Rattle.vex_tool.specs.Ends.{Answers, AppendsFront, IsStopped, RoseOrIsLast}
 use Rattle.vex_tool.specs.LineMachine.{EndedBefore, stepped, line_after, ended_at, ended}
-use Rattle.vex_tool.proofs.EndsLemmas.{Answers-fault, Appends-keeps, Appends-none, Appends-then, AppendsFront-keeps, AppendsFront-then, AppendsFront-more}
+use Rattle.vex_tool.proofs.EndsLemmas.{Answers-fault, Appends-keeps, Appends-none, Appends-then, AppendsFront-keeps}
+use Rattle.vex_tool.proofs.EndsLemmas.{AppendsFront-then, AppendsFront-more}
 use Rattle.vex_tool.proofs.LineMachineLemmas.{line_after-append, line_after-one, ended-append, ended-one}
 
 -- what a sink tells: its bytes and its count of faults
@@ -15,7 +17,8 @@ pub record Told : Type 0 where
   pub faults : ℕ
 
 -- the bytes of the front were taken, from a line and a sink as these were first to what they are now
-pub record Fed (f : List ℕ → List ℕ) (first : Option (List ℕ)) (sink : Told) (front : List ℕ) (line : Option (List ℕ)) (now : Told) : Type 0 where
+pub record Fed (f : List ℕ → List ℕ) (first : Option (List ℕ)) (sink : Told) (front : List ℕ) (line : Option (List ℕ))
+    (now : Told) : Type 0 where
   pub kept : line ≡ line_after first front
   pub written : Appends sink.text now.text (ended f first front)
   pub quiet : now.faults ≡ sink.faults
@@ -30,19 +33,23 @@ module _ (f : List ℕ → List ℕ) (first : Option (List ℕ)) (sink : Told) w
       → ended f first (front ++ b ∷ []) ≡ ended f first front ++ ended_at f line b
   ended-more front line b kept =
       ended-append f first front (b ∷ [])
-      ∙ ap (λ t. ended f first front ++ t) (ended-one f (line_after first front) b ∙ ap (λ k. ended_at f k b) (sym kept))
+      ∙ ap (λ t. ended f first front ++ t) (ended-one f (line_after first front) b
+      ∙ ap (λ k. ended_at f k b) (sym kept))
 
-  pub Fed-step : (front : List ℕ) (line next : Option (List ℕ)) (now new : Told) (b : ℕ) → Fed f first sink front line now
+  pub Fed-step : (front : List ℕ) (line next : Option (List ℕ)) (now new : Told) (b : ℕ)
+      → Fed f first sink front line now
       → next ≡ stepped line b → Appends now.text new.text (ended_at f line b) → new.faults ≡ now.faults
       → Fed f first sink (front ++ b ∷ []) next new
   Fed-step front line next now new b fed kept written quiet = record {
-    kept = kept ∙ ap (λ k. stepped k b) fed.kept ∙ sym (line_after-append first front (b ∷ []) ∙ line_after-one (line_after first front) b);
+    kept = kept ∙ ap (λ k. stepped k b) fed.kept
+        ∙ sym (line_after-append first front (b ∷ []) ∙ line_after-one (line_after first front) b);
     written = rw (ended-more front line b fed.kept) (Appends-then sink.text now.text new.text _ _ fed.written written);
     quiet = quiet ∙ fed.quiet;
   }
 
   -- a write failed at a byte of the piece
-  pub Fed-fault : (front piece rest : List ℕ) (line : Option (List ℕ)) (now : Told) (new : Option (List ℕ)) (b : ℕ) → Fed f first sink front line now
+  pub Fed-fault : (front piece rest : List ℕ) (line : Option (List ℕ)) (now : Told) (new : Option (List ℕ)) (b : ℕ)
+      → Fed f first sink front line now
       → piece ≡ (front ++ b ∷ []) ++ rest → AppendsFront now.text new (ended_at f line b)
       → AppendsFront sink.text new (ended f first piece)
   Fed-fault front piece rest line now new b fed split written =
@@ -51,10 +58,13 @@ module _ (f : List ℕ → List ℕ) (first : Option (List ℕ)) (sink : Told) w
 
 module _ (f : List ℕ → List ℕ) (P : List ℕ → Type 0) (first : Option (List ℕ)) (sink : Told) where
   -- the text of a byte of the piece wasn't written
-  pub Fed-stopped : (front piece rest : List ℕ) (line : Option (List ℕ)) (now : Told) (new : Option (List ℕ)) (after : ℕ) (b : ℕ) (halt : Halt)
+  pub Fed-stopped : (front piece rest : List ℕ) (line : Option (List ℕ)) (now : Told) (new : Option (List ℕ))
+      (after : ℕ) (b : ℕ) (halt : Halt)
       → Fed f first sink front line now → piece ≡ (front ++ b ∷ []) ++ rest
-      → Answers (λ written. (written ≡ []) × (b ≡ 10) × IsSomeAnd line P) (Err halt) now.text new now.faults after (ended_at f line b)
-      → Answers (λ written. EndedBefore f P first piece written) (Err halt) sink.text new sink.faults after (ended f first piece)
+      → Answers (λ written. (written ≡ []) × (b ≡ 10) × IsSomeAnd line P) (Err halt) now.text new now.faults after
+      (ended_at f line b)
+      → Answers (λ written. EndedBefore f P first piece written) (Err halt) sink.text new sink.faults after
+      (ended f first piece)
   Fed-stopped front piece rest line now new after b halt fed split h = record {
     appends = tt;
     quiet = tt;
@@ -78,7 +88,8 @@ module _ (f : List ℕ → List ℕ) (P : List ℕ → Type 0) (first : Option (
   }
 
 -- what was written before a line that there was no memory for is a front of what all lines give
-ended-before : (f : List ℕ → List ℕ) (P : List ℕ → Type 0) (line : Option (List ℕ)) (piece written : List ℕ) → EndedBefore f P line piece written
+ended-before : (f : List ℕ → List ℕ) (P : List ℕ → Type 0) (line : Option (List ℕ)) (piece written : List ℕ)
+    → EndedBefore f P line piece written
     → (back : List ℕ) × (ended f line piece ≡ written ++ back)
 ended-before f P line piece written h = (
   ended f (line_after line h.front) (10 ∷ h.rest),
@@ -87,7 +98,8 @@ ended-before f P line piece written h = (
 )
 
 -- the answers before a line that there was no memory for were handed on, or that failed
-pub Fed-stopped-handed_on : (f : List ℕ → List ℕ) (P : List ℕ → Type 0) (line : Option (List ℕ)) (piece : List ℕ) (halt result : Halt)
+pub Fed-stopped-handed_on : (f : List ℕ → List ℕ) (P : List ℕ → Type 0) (line : Option (List ℕ)) (piece : List ℕ)
+    (halt result : Halt)
     (old mid new : Option (List ℕ)) (before between after : ℕ)
     → Answers (λ written. EndedBefore f P line piece written) (Err halt) old mid before between (ended f line piece)
     → Keeps mid new → IsStopped halt result between after

@@ -1,17 +1,20 @@
 -- The greatest reg field of a row, field by field, and the totals, spelling by spelling.
 use Rattle.std.proofs.lemmas.Nat.{mod_below}
-use Rattle.std.proofs.Common.{◌≡◌, ℕ, suc, ◌+◌, ◌-◌, ◌/◌, ◌%◌, ◌<◌, ◌≤◌, Bool, true, false, Option, Some, None, sym, ap, subst, ◌∙◌, refl, arith, if◌then◌else◌, List, length, slice_get, sum}
+use Rattle.std.proofs.Common.{◌≡◌, ℕ, suc, ◌+◌, ◌-◌, ◌/◌, ◌%◌, ◌<◌, ◌≤◌, Bool, true, false, Option, Some, None, sym, ap}
+use Rattle.std.proofs.Common.{subst, ◌∙◌, refl, arith, if◌then◌else◌, List, length, slice_get, sum}
 use Rattle.vex_rows.specs.declared.entry.Entry.{Entry}
 use Rattle.vex_rows.specs.Table.{table}
 use Rattle.vex_tool.specs.declared.make_line.Totals.{Totals}
-use Rattle.vex_tool.specs.Generator.{generated, greatest, has_row, made, one_of, read_of, recoding, short_of, spelling_of, sum_of, total}
+use Rattle.vex_tool.specs.Generator.{generated, greatest, has_row, made, one_of, read_of, recoding, short_of}
+use Rattle.vex_tool.specs.Generator.{spelling_of, sum_of, total}
 use Rattle.vex_tool.specs.Totals.{IsTotals, line_of}
 
 one-less : (above : ℕ) → above < 8 → 8 - above ≡ suc (7 - above)
 one-less above h = omega (arith, h)
 
 -- a row of the greatest field that is left
-pub greatest-found : (entry : Entry) (w l memory : Bool) (above : ℕ) → above < 8 → has_row entry w l memory (7 - above) ≡ true
+pub greatest-found : (entry : Entry) (w l memory : Bool) (above : ℕ) → above < 8
+    → has_row entry w l memory (7 - above) ≡ true
     → greatest entry w l memory (8 - above) ≡ Some (7 - above)
 unfolding greatest
 greatest-found entry w l memory above h row =
@@ -19,7 +22,8 @@ greatest-found entry w l memory above h row =
     ∙ ap (λ b. if b then Some (7 - above) else greatest entry w l memory (7 - above)) row
 
 -- no row of the greatest field that is left
-pub greatest-less : (entry : Entry) (w l memory : Bool) (above : ℕ) → above < 8 → has_row entry w l memory (7 - above) ≡ false
+pub greatest-less : (entry : Entry) (w l memory : Bool) (above : ℕ) → above < 8
+    → has_row entry w l memory (7 - above) ≡ false
     → greatest entry w l memory (8 - above) ≡ greatest entry w l memory (7 - above)
 unfolding greatest
 greatest-less entry w l memory above h none =
@@ -76,8 +80,10 @@ totals-none t recoded read short sum_ = record {
 }
 
 -- a spelling more that is recoded
-pub totals-more : (old new : Totals) (i n : ℕ) (c : List ℕ) → IsTotals old i → recoding (generated i) ≡ Some (n, c) → n ≤ 11 → length c ≤ 11 → sum c ≤ 2805
-    → new.recoded ≡ old.recoded + 1 → new.read ≡ old.read + n → new.short ≡ old.short + length c → new.sum ≡ old.sum + sum c
+pub totals-more : (old new : Totals) (i n : ℕ) (c : List ℕ) → IsTotals old i → recoding (generated i) ≡ Some (n, c)
+    → n ≤ 11 → length c ≤ 11 → sum c ≤ 2805
+    → new.recoded ≡ old.recoded + 1 → new.read ≡ old.read + n → new.short ≡ old.short + length c
+    → new.sum ≡ old.sum + sum c
     → IsTotals new (i + 1)
 totals-more old new i n c t is few short low recoded read short_ sum_ = record {
   recoded = recoded ∙ ap (λ k. k + 1) t.recoded ∙ by one_of 1 refl;

@@ -1,5 +1,6 @@
 -- The names of the profiles that have every bit, one after another.
-use Rattle.std.proofs.Common.{◌≡◌, ℕ, ◌+◌, ◌*◌, ◌<◌, ◌≤◌, Bool, true, false, Bor, List, [], ◌∷◌, ◌++◌, length, get_or, take, ap, sym, ◌∙◌, refl, arith, append_assoc, nat_eq, nat_le, zero, suc, Some, None}
+use Rattle.std.proofs.Common.{◌≡◌, ℕ, ◌+◌, ◌*◌, ◌<◌, ◌≤◌, Bool, true, false, Bor, List, [], ◌∷◌, ◌++◌, length, get_or}
+use Rattle.std.proofs.Common.{take, ap, sym, ◌∙◌, refl, arith, append_assoc, nat_eq, nat_le, zero, suc, Some, None}
 use Rattle.std.specs.Prelude.{All, ◌&&◌, codes, flat_map, map, if◌then◌else◌}
 use Rattle.std.proofs.lemmas.Bool.{and_parts}
 use Rattle.std.proofs.lemmas.Bool.Decides.{nat_tests}
@@ -11,10 +12,12 @@ use Rattle.x86_uarch.specs.Profiles.{microarchitectures, profiles}
 use Rattle.vex_check.specs.declared.needs.First.{First}
 use Rattle.vex_check.specs.declared.needs.RunFault.{RunFault}
 use Rattle.vex_check.specs.Needs.{all_needed, fault, firsts, run}
-use Rattle.vex_tool.specs.LeastLines.{fault_line, least_by, least_lines, need_line, or_dash, profile_word, profiles_line}
+use Rattle.vex_tool.specs.LeastLines.{fault_line, least_by, least_lines, need_line, or_dash, profile_word}
+use Rattle.vex_tool.specs.LeastLines.{profiles_line}
 
 -- an element of a list, whatever stands for one past its end
-pub at-default : {A : Type 0} (items : List A) (i : ℕ) (d : A) → i < length items → get_or items i d ≡ get_or items i (get_or items i d)
+pub at-default : {A : Type 0} (items : List A) (i : ℕ) (d : A) → i < length items
+    → get_or items i d ≡ get_or items i (get_or items i d)
 at-default items i d h = sym (get_or_default items i (get_or items i d) d h)
 
 -- the word of a name of the code's
@@ -40,7 +43,8 @@ all-short : (names : List (List ℕ)) → are_short names ≡ true → All (λ (
 unfolding are_short
 all-short [] h = All-nil (λ (name : List ℕ). length name ≤ 11)
 all-short (name ∷ names) h =
-    let parts = and_parts _ _ h in All-cons (λ (n : List ℕ). length n ≤ 11) name names (short_name (length name) parts.0) (all-short names parts.1)
+    let parts = and_parts _ _ h in All-cons (λ (n : List ℕ). length n ≤ 11) name names
+    (short_name (length name) parts.0) (all-short names parts.1)
 
 architectures-short : are_short microarchitectures ≡ true
 unfolding are_short microarchitectures profiles
@@ -66,11 +70,13 @@ same-count (name ∷ names) = ap suc (same-count names)
 count-names : (names : List (Bor (List ℕ))) → AreNames names → length names ≡ 23
 count-names names are = sym (same-count names) ∙ ap length are ∙ architectures-count
 
-pub name-short : (names : List (Bor (List ℕ))) (i : ℕ) (d : Bor (List ℕ)) → AreNames names → i < length names → length (get_or names i d).now ≤ 11
+pub name-short : (names : List (Bor (List ℕ))) (i : ℕ) (d : Bor (List ℕ)) → AreNames names → i < length names
+    → length (get_or names i d).now ≤ 11
 name-short names i d are below =
     let at = at-map (λ (name : Bor (List ℕ)). name.now) names i d ∙ ap (λ ns. get_or ns i d.now) are in
     let within : i < length microarchitectures = omega (arith, below, count-names names are, architectures-count) in
-    let short = All-get_or (λ (name : List ℕ). length name ≤ 11) microarchitectures i d.now within (all-short microarchitectures architectures-short) in
+    let short = All-get_or (λ (name : List ℕ). length name ≤ 11) microarchitectures i d.now within
+    (all-short microarchitectures architectures-short) in
     omega (arith, ap length at, short)
 
 -- ---- the line
@@ -80,16 +86,19 @@ pub record Gathered (wanted : List Bool) (names : List (Bor (List ℕ))) (i : �
   pub text_is : text ≡ codes "profiles" ++ flat_map (seen_word wanted) (take i names)
   pub short : length text ≤ 8 + 12 * i
 
-pub gathered-step : (wanted : List Bool) (names : List (Bor (List ℕ))) (i : ℕ) (d : Bor (List ℕ)) (text new : List ℕ) → AreNames names
+pub gathered-step : (wanted : List Bool) (names : List (Bor (List ℕ))) (i : ℕ) (d : Bor (List ℕ)) (text new : List ℕ)
+    → AreNames names
     → i < length names → Gathered wanted names i text → new ≡ text ++ profile_word wanted (get_or names i d).now
     → length new ≤ length text + 1 + length (get_or names i d).now → Gathered wanted names (i + 1) new
 gathered-step wanted names i d text new are below so_far is longer = record {
   text_is =
       is
       ∙ ap (λ t. t ++ profile_word wanted (get_or names i d).now) so_far.text_is
-      ∙ append_assoc (codes "profiles") (flat_map (seen_word wanted) (take i names)) (profile_word wanted (get_or names i d).now)
+      ∙ append_assoc (codes "profiles") (flat_map (seen_word wanted) (take i names))
+      (profile_word wanted (get_or names i d).now)
       ∙ ap (λ t. codes "profiles" ++ t)
-      (ap (λ t. flat_map (seen_word wanted) (take i names) ++ t) (sym (append-nil (profile_word wanted (get_or names i d).now)))
+      (ap (λ t. flat_map (seen_word wanted) (take i names) ++ t)
+      (sym (append-nil (profile_word wanted (get_or names i d).now)))
       ∙ sym (flat_map-append (seen_word wanted) (take i names) (get_or names i d ∷ []))
       ∙ ap (flat_map (seen_word wanted)) (sym (take_more names i d below)));
   short = omega (arith, so_far.short, longer, name-short names i d are below);
@@ -97,13 +106,16 @@ gathered-step wanted names i d text new are below so_far is longer = record {
 
 -- no word, and a dash for it
 dashed : (words : List ℕ)
-    → (codes "profiles" ++ words) ++ (if nat_eq (length (codes "profiles" ++ words)) 8 then codes " -" else []) ≡ codes "profiles" ++ or_dash words
+    → (codes "profiles" ++ words) ++ (if nat_eq (length (codes "profiles" ++ words)) 8 then codes " -" else [])
+    ≡ codes "profiles" ++ or_dash words
 dashed [] = refl
 dashed (c ∷ cs) =
     let long : nat_eq (length (codes "profiles" ++ c ∷ cs)) 8 ≡ false = grind (arith, nat_tests) in
-    ap (λ b. (codes "profiles" ++ c ∷ cs) ++ (if b then codes " -" else [])) long ∙ append-nil (codes "profiles" ++ c ∷ cs)
+    ap (λ b. (codes "profiles" ++ c ∷ cs) ++ (if b then codes " -" else [])) long
+    ∙ append-nil (codes "profiles" ++ c ∷ cs)
 
-pub gathered-line : (wanted : List Bool) (names : List (Bor (List ℕ))) (text : List ℕ) → AreNames names → Gathered wanted names (length names) text
+pub gathered-line : (wanted : List Bool) (names : List (Bor (List ℕ))) (text : List ℕ) → AreNames names
+    → Gathered wanted names (length names) text
     → (text ++ (if nat_eq (length text) 8 then codes " -" else [])) ++ codes "\n" ≡ profiles_line wanted
 unfolding profiles_line
 gathered-line wanted names text are gathered =
@@ -119,11 +131,13 @@ gathered-line wanted names text are gathered =
       take-all xs = take-length xs
 
 -- how long the text is at most
-pub gathered-room : (wanted : List Bool) (names : List (Bor (List ℕ))) (i : ℕ) (text : List ℕ) → AreNames names → i ≤ length names
+pub gathered-room : (wanted : List Bool) (names : List (Bor (List ℕ))) (i : ℕ) (text : List ℕ) → AreNames names
+    → i ≤ length names
     → Gathered wanted names i text → length text ≤ 284
 gathered-room wanted names i text are within gathered = omega (arith, gathered.short, within, count-names names are)
 
-pub before-room : (wanted : List Bool) (names : List (Bor (List ℕ))) (i : ℕ) (d : Bor (List ℕ)) (text : List ℕ) → AreNames names → i < length names
+pub before-room : (wanted : List Bool) (names : List (Bor (List ℕ))) (i : ℕ) (d : Bor (List ℕ)) (text : List ℕ)
+    → AreNames names → i < length names
     → Gathered wanted names i text → length text + 1 + length (get_or names i d).now ≤ 320
 before-room wanted names i d text are below gathered =
     omega (arith, gathered.short, below, count-names names are, name-short names i d are below)
@@ -131,7 +145,8 @@ before-room wanted names i d text are below gathered =
 -- ---- all lines
 
 -- the lines of a run without a fault, and of one with a fault
-pub lines-needed : (bytes : List ℕ) (found : List First) (least : List Bool) → fault (run bytes) ≡ None → found ≡ firsts (run bytes).items
+pub lines-needed : (bytes : List ℕ) (found : List First) (least : List Bool) → fault (run bytes) ≡ None
+    → found ≡ firsts (run bytes).items
     → least ≡ all_needed (run bytes).items → least_lines bytes ≡ flat_map need_line found ++ profiles_line least
 unfolding least_lines
 lines-needed bytes found least none these bits =

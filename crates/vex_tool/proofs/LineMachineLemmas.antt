@@ -1,5 +1,6 @@
 -- The machine of the line buffer does what the lines of all bytes say, whatever a line gives.
-use Rattle.std.proofs.Common.{◌≡◌, ℕ, ◌<◌, ◌≤◌, Bool, true, false, cond, eqb, leb, List, [], ◌∷◌, ◌++◌, length, Option, Some, None, ◌⊎◌, inl, inr, sym, ap, ◌∙◌, subst, refl, arith}
+use Rattle.std.proofs.Common.{◌≡◌, ℕ, ◌<◌, ◌≤◌, Bool, true, false, cond, eqb, leb, List, [], ◌∷◌, ◌++◌, length, Option}
+use Rattle.std.proofs.Common.{Some, None, ◌⊎◌, inl, inr, sym, ap, ◌∙◌, subst, refl, arith}
 use Rattle.std.specs.Prelude.{IsSomeAnd}
 use Rattle.std.proofs.lemmas.Bool.Decides.{nat_tests}
 use Rattle.std.proofs.lemmas.List.{append-nil, append_assoc, length_push}
@@ -10,7 +11,8 @@ use Rattle.vex_tool.specs.LineMachine.{pushed, stepped, line_after, long_line, k
 
 -- ---- one piece after another
 
-pub line_after-append : (kept : Option (List ℕ)) (a b : List ℕ) → line_after kept (a ++ b) ≡ line_after (line_after kept a) b
+pub line_after-append : (kept : Option (List ℕ)) (a b : List ℕ)
+    → line_after kept (a ++ b) ≡ line_after (line_after kept a) b
 unfolding line_after
 line_after-append kept [] b = refl
 line_after-append kept (x ∷ a) b = line_after-append (stepped kept x) a b
@@ -105,10 +107,12 @@ pushed-kept_of : (line : List ℕ) (b : ℕ) → pushed (kept_of line) b ≡ kep
 pushed-kept_of line b =
     let more = length_push line b in
     elim (cases_lt (length line) 8192) [
-      | inl room ↦ rw (kept_of-short line (omega arith), kept_of-short (line ++ b ∷ []) (omega arith)) (pushed-room line b room)
+      | inl room ↦ rw (kept_of-short line (omega arith), kept_of-short (line ++ b ∷ []) (omega arith))
+          (pushed-room line b room)
       | inr full ↦ elim (cases_lt 8192 (length line)) [
         | inl long ↦ rw (kept_of-long line long, kept_of-long (line ++ b ∷ []) (omega arith)) (pushed-none b)
-        | inr short ↦ rw (kept_of-short line short, kept_of-long (line ++ b ∷ []) (omega arith)) (pushed-full line b full)
+        | inr short ↦ rw (kept_of-short line short, kept_of-long (line ++ b ∷ []) (omega arith))
+            (pushed-full line b full)
       ]
     ]
 
@@ -132,7 +136,8 @@ onto-push : (front : List ℕ) (b : ℕ) → onto (front ++ b ∷ []) [] ≡ (fr
 onto-push [] b = refl
 onto-push (x ∷ xs) b = refl
 
-onto-onto_first : (front : List ℕ) (b : ℕ) (ls : List (List ℕ)) → onto front (onto_first b ls) ≡ onto (front ++ b ∷ []) ls
+onto-onto_first : (front : List ℕ) (b : ℕ) (ls : List (List ℕ))
+    → onto front (onto_first b ls) ≡ onto (front ++ b ∷ []) ls
 onto-onto_first front b [] = onto-some front (b ∷ []) [] ∙ sym (onto-push front b)
 onto-onto_first front b (l ∷ ls) =
     onto-some front (b ∷ l) ls
@@ -151,24 +156,30 @@ pub begun_line : List ℕ → List ℕ → List ℕ
 begun_line begun [] = begun
 begun_line begun (b ∷ bs) = cond (eqb b 10) (begun_line [] bs) (begun_line (begun ++ b ∷ []) bs)
 
-ended_lines-end : (begun : List ℕ) (b : ℕ) (bs : List ℕ) → eqb b 10 ≡ true → ended_lines begun (b ∷ bs) ≡ begun ∷ ended_lines [] bs
+ended_lines-end : (begun : List ℕ) (b : ℕ) (bs : List ℕ) → eqb b 10 ≡ true
+    → ended_lines begun (b ∷ bs) ≡ begun ∷ ended_lines [] bs
 unfolding ended_lines
-ended_lines-end begun b bs e = ap (λ (t : Bool). cond t (begun ∷ ended_lines [] bs) (ended_lines (begun ++ b ∷ []) bs)) e
+ended_lines-end begun b bs e = ap (λ (t : Bool). cond t (begun ∷ ended_lines [] bs) (ended_lines (begun ++ b ∷ []) bs))
+    e
 
-ended_lines-inside : (begun : List ℕ) (b : ℕ) (bs : List ℕ) → eqb b 10 ≡ false → ended_lines begun (b ∷ bs) ≡ ended_lines (begun ++ b ∷ []) bs
+ended_lines-inside : (begun : List ℕ) (b : ℕ) (bs : List ℕ) → eqb b 10 ≡ false
+    → ended_lines begun (b ∷ bs) ≡ ended_lines (begun ++ b ∷ []) bs
 unfolding ended_lines
-ended_lines-inside begun b bs e = ap (λ (t : Bool). cond t (begun ∷ ended_lines [] bs) (ended_lines (begun ++ b ∷ []) bs)) e
+ended_lines-inside begun b bs e = ap (λ (t : Bool). cond t (begun ∷ ended_lines [] bs)
+    (ended_lines (begun ++ b ∷ []) bs)) e
 
 begun_line-end : (begun : List ℕ) (b : ℕ) (bs : List ℕ) → eqb b 10 ≡ true → begun_line begun (b ∷ bs) ≡ begun_line [] bs
 unfolding begun_line
 begun_line-end begun b bs e = ap (λ (t : Bool). cond t (begun_line [] bs) (begun_line (begun ++ b ∷ []) bs)) e
 
-begun_line-inside : (begun : List ℕ) (b : ℕ) (bs : List ℕ) → eqb b 10 ≡ false → begun_line begun (b ∷ bs) ≡ begun_line (begun ++ b ∷ []) bs
+begun_line-inside : (begun : List ℕ) (b : ℕ) (bs : List ℕ) → eqb b 10 ≡ false
+    → begun_line begun (b ∷ bs) ≡ begun_line (begun ++ b ∷ []) bs
 unfolding begun_line
 begun_line-inside begun b bs e = ap (λ (t : Bool). cond t (begun_line [] bs) (begun_line (begun ++ b ∷ []) bs)) e
 
 -- all lines are those that a front ends, and then those of the rest, of which the first is begun
-lines-from : (begun front rest : List ℕ) → onto begun (lines (front ++ rest)) ≡ ended_lines begun front ++ onto (begun_line begun front) (lines rest)
+lines-from : (begun front rest : List ℕ)
+    → onto begun (lines (front ++ rest)) ≡ ended_lines begun front ++ onto (begun_line begun front) (lines rest)
 unfolding ended_lines begun_line
 lines-from begun [] rest = refl
 lines-from begun (b ∷ front) rest = elim (either (eqb b 10)) [
@@ -210,7 +221,8 @@ IsSomeAnd-kept_of line P h = elim (cases_lt 8192 (length line)) [
 ]
 
 -- the line that a byte 10 ends, among all lines
-pub lines-ended : (front rest : List ℕ) → lines (front ++ 10 ∷ rest) ≡ ended_lines [] front ++ begun_line [] front ∷ lines rest
+pub lines-ended : (front rest : List ℕ) → lines (front ++ 10 ∷ rest)
+    ≡ ended_lines [] front ++ begun_line [] front ∷ lines rest
 lines-ended front rest =
     sym (onto-none (lines (front ++ 10 ∷ rest)))
     ∙ lines-from [] front (10 ∷ rest)
@@ -223,16 +235,19 @@ onto-nil [] some = absurd (some refl)
 onto-nil (b ∷ bs) some = refl
 
 -- the last line, which has no end, among all lines
-pub lines-last : (bytes : List ℕ) → (line_after (Some []) bytes ≡ Some [] → ⊥) → lines bytes ≡ ended_lines [] bytes ++ begun_line [] bytes ∷ []
+pub lines-last : (bytes : List ℕ) → (line_after (Some []) bytes ≡ Some [] → ⊥)
+    → lines bytes ≡ ended_lines [] bytes ++ begun_line [] bytes ∷ []
 unfolding lines
 lines-last bytes some =
     ap lines (sym (append-nil bytes))
     ∙ sym (onto-none (lines (bytes ++ [])))
     ∙ lines-from [] bytes []
-    ∙ ap (λ ls. ended_lines [] bytes ++ ls) (onto-nil (begun_line [] bytes) (λ none. some (kept-begun [] bytes ∙ ap kept_of none)))
+    ∙ ap (λ ls. ended_lines [] bytes ++ ls)
+    (onto-nil (begun_line [] bytes) (λ none. some (kept-begun [] bytes ∙ ap kept_of none)))
 
 -- what holds of the line that is kept holds of the line that is begun
-pub begun-is : (bytes : List ℕ) (P : List ℕ → Type 0) → IsSomeAnd (line_after (Some []) bytes) P → P (begun_line [] bytes)
+pub begun-is : (bytes : List ℕ) (P : List ℕ → Type 0) → IsSomeAnd (line_after (Some []) bytes) P
+    → P (begun_line [] bytes)
 begun-is bytes P h = IsSomeAnd-kept_of (begun_line [] bytes) P (subst (λ k. IsSomeAnd k P) (kept-begun [] bytes) h)
 
 -- every line that is too long gives the same
@@ -240,7 +255,8 @@ pub record SameForLong (f : List ℕ → List ℕ) : Type 0 where
   pub same : (line : List ℕ) → 8192 < length line → f line ≡ long_line
 
 module _ (f : List ℕ → List ℕ) where
-  pub ended-append : (kept : Option (List ℕ)) (a b : List ℕ) → ended f kept (a ++ b) ≡ ended f kept a ++ ended f (line_after kept a) b
+  pub ended-append : (kept : Option (List ℕ)) (a b : List ℕ)
+      → ended f kept (a ++ b) ≡ ended f kept a ++ ended f (line_after kept a) b
   unfolding ended line_after
   ended-append kept [] b = refl
   ended-append kept (x ∷ a) b =
@@ -271,12 +287,14 @@ module _ (f : List ℕ → List ℕ) where
   last-some (Some (x ∷ xs)) h = refl
 
   -- bytes up to their last line end have the same ended lines
-  ended-onto_whole : (kept : Option (List ℕ)) (b : ℕ) (front bs : List ℕ) → ended f (stepped kept b) front ≡ ended f (stepped kept b) bs
+  ended-onto_whole : (kept : Option (List ℕ)) (b : ℕ) (front bs : List ℕ)
+      → ended f (stepped kept b) front ≡ ended f (stepped kept b) bs
       → ended f kept (onto_whole b front) ≡ ended_at f kept b ++ ended f (stepped kept b) bs
   unfolding ended
   ended-onto_whole kept b [] bs h = elim (either (eqb b 10)) [
     | inl e ↦ ap (ended f kept) (onto_whole-end b e) ∙ ap (λ t. ended_at f kept b ++ t) h
-    | inr e ↦ ap (ended f kept) (onto_whole-inside b e) ∙ h ∙ ap (λ t. t ++ ended f (stepped kept b) bs) (sym (ended_at-inside kept b e))
+    | inr e ↦ ap (ended f kept) (onto_whole-inside b e) ∙ h
+        ∙ ap (λ t. t ++ ended f (stepped kept b) bs) (sym (ended_at-inside kept b e))
   ]
   ended-onto_whole kept b (c ∷ cs) bs h = ap (λ t. ended_at f kept b ++ t) h
 
@@ -301,7 +319,8 @@ module _ (f : List ℕ → List ℕ) where
       | inl e ↦
           ap (flat_map f) (ended_lines-end begun b bs e)
           ∙ ap (λ t. f begun ++ t) (ended_lines-from [] bs)
-          ∙ sym (ap (λ t. t ++ ended f (stepped (kept_of begun) b) bs) (ended_at-end (kept_of begun) b e ∙ kept_report-kept_of begun)
+          ∙ sym (ap (λ t. t ++ ended f (stepped (kept_of begun) b) bs)
+          (ended_at-end (kept_of begun) b e ∙ kept_report-kept_of begun)
           ∙ ap (λ k. f begun ++ ended f k bs) (stepped-end (kept_of begun) b e))
       | inr e ↦
           ap (flat_map f) (ended_lines-inside begun b bs e)
@@ -331,7 +350,8 @@ module _ (f : List ℕ → List ℕ) where
     from_kept-step : (kept : Option (List ℕ)) (b : ℕ) (bs : List ℕ)
         → from_kept kept (b ∷ bs) ≡ ended_at f kept b ++ from_kept (stepped kept b) bs
     unfolding ended line_after
-    from_kept-step kept b bs = append_assoc (ended_at f kept b) (ended f (stepped kept b) bs) (last f (line_after (stepped kept b) bs))
+    from_kept-step kept b bs = append_assoc (ended_at f kept b) (ended f (stepped kept b) bs)
+        (last f (line_after (stepped kept b) bs))
 
     output-end : (line : List ℕ) (b : ℕ) (bs : List ℕ) → eqb b 10 ≡ true
         → flat_map f (onto line (lines (b ∷ bs))) ≡ f line ++ flat_map f (lines bs)

@@ -1,5 +1,6 @@
 -- The notes that a sink keeps are those on the bytes that a decode takes.
-use Rattle.std.proofs.Common.{◌≡◌, ℕ, ◌≤◌, Bool, true, false, List, [], ◌++◌, length, take, Some, None, Ok, Err, sym, ap, ◌∙◌, refl, arith, subst, length-append}
+use Rattle.std.proofs.Common.{◌≡◌, ℕ, ◌≤◌, Bool, true, false, List, [], ◌++◌, length, take, Some, None, Ok, Err, sym}
+use Rattle.std.proofs.Common.{ap, ◌∙◌, refl, arith, subst, length-append}
 use Rattle.std.specs.Prelude.{IsTrue, IsSome, if◌then◌else◌, OnOk, IfErr, Result}
 use Rattle.std.proofs.Math.Seq.{take-append_seam}
 use Rattle.std.specs.Io.KnownBytes.{prepend_known}
@@ -23,7 +24,8 @@ use Rattle.vex_decode.specs.Laws.{ReadingIsSpelling}
 use Rattle.vex_tool.specs.NoteLines.{bytes_taken, number_read, number_taken}
 
 -- a new list keeps what it was given, where that isn't more than it can keep
-pub kept-all : (old new : TripleList FieldDescription) (given : List NoteAt) → old.kept ≡ [] → IsTrue old.whole → length given ≤ 11
+pub kept-all : (old new : TripleList FieldDescription) (given : List NoteAt) → old.kept ≡ [] → IsTrue old.whole
+    → length given ≤ 11
     → Records (list_state old) (list_state new) given → new.kept ≡ given
 kept-all old new given empty whole few records = by old.kept old.whole new.whole empty whole records where
   told : (kept : List NoteAt) (after : Bool) → kept ≡ [] → IsSome (if after then Some new.kept else None)
@@ -32,7 +34,8 @@ kept-all old new given empty whole few records = by old.kept old.whole new.whole
   told kept false none some is = cc
 
   by : (kept : List NoteAt) (before after : Bool) → kept ≡ [] → IsTrue before
-      → Records (list_state (record { kept = kept; whole = before })) (list_state (record { kept = new.kept; whole = after })) given → new.kept ≡ given
+      → Records (list_state (record { kept = kept; whole = before }))
+      (list_state (record { kept = new.kept; whole = after })) given → new.kept ≡ given
   by kept false after none is r = cc
   by kept true after none is r =
       let long : length kept ≡ 0 = ap length none in
@@ -48,32 +51,40 @@ taken-front : (bytes passed rest : List ℕ) → bytes ≡ passed ++ rest → ta
 taken-front bytes passed rest is = let long = ap length is ∙ length-append passed rest in omega (arith, long)
 
 -- those are the bytes that a decode takes, where it takes as many
-taken-bytes : (settings : List Bool) (bytes passed rest : List ℕ) → bytes ≡ passed ++ rest → number_taken bytes (blocked settings bytes) ≡ taken bytes rest
+taken-bytes : (settings : List Bool) (bytes passed rest : List ℕ) → bytes ≡ passed ++ rest
+    → number_taken bytes (blocked settings bytes) ≡ taken bytes rest
     → bytes_taken settings bytes ≡ passed
 unfolding bytes_taken
 taken-bytes settings bytes passed rest split number =
-    ap (λ n. take n bytes) (number ∙ taken-front bytes passed rest split) ∙ ap (take (length passed)) split ∙ take-append_seam passed rest
+    ap (λ n. take n bytes) (number ∙ taken-front bytes passed rest split) ∙ ap (take (length passed)) split
+    ∙ take-append_seam passed rest
 
 -- after a refusal
 pub taken-refused : (settings : List Bool) (error : DecodeError) (before after : SliceReader) (passed : List ℕ)
-    → Passes (slice_state before) (slice_state after) passed → BlocksSlice settings (slice_state before) (slice_state after) error
+    → Passes (slice_state before) (slice_state after) passed
+    → BlocksSlice settings (slice_state before) (slice_state after) error
     → bytes_taken settings before.left ≡ passed
 taken-refused settings error before after passed passes blocks =
     taken-bytes settings before.left passed after.left (front-of before.left passed after.left passes.left)
     (ap (number_taken before.left) (blocks before after refl refl))
 
 -- how many bytes a decode that reads a spelling takes, whether the settings permit it or not
-number-read : (settings : List Bool) (bytes : List ℕ) (read : Row × Syntax) (rest : List ℕ) → walk bytes ≡ Ok (read, rest)
+number-read : (settings : List Bool) (bytes : List ℕ) (read : Row × Syntax) (rest : List ℕ)
+    → walk bytes ≡ Ok (read, rest)
     → number_taken bytes (blocked settings bytes) ≡ taken bytes rest
 number-read settings bytes read rest walked =
-    ap (λ w. number_taken bytes (refused settings bytes w)) walked ∙ by (permits settings (mark_of read.0) (opcode_of read.0)) where
-      by : (permitted : Bool) → number_taken bytes (if permitted then None else Some (InvalidOpcode, taken bytes rest)) ≡ taken bytes rest
+    ap (λ w. number_taken bytes (refused settings bytes w)) walked
+    ∙ by (permits settings (mark_of read.0) (opcode_of read.0)) where
+      by : (permitted : Bool) → number_taken bytes (if permitted then None else Some (InvalidOpcode, taken bytes rest))
+          ≡ taken bytes rest
       by true = ap (number_read bytes) walked
       by false = refl
 
 -- after an instruction
-pub taken-instruction : (settings : List Bool) (decoded : Decoded) (before after : SliceReader) (passed : List ℕ) → ReadingIsSpelling → IsBytes before.left
-    → Passes (slice_state before) (slice_state after) passed → TakesInstruction settings (slice_state before) (slice_state after) decoded
+pub taken-instruction : (settings : List Bool) (decoded : Decoded) (before after : SliceReader) (passed : List ℕ)
+    → ReadingIsSpelling → IsBytes before.left
+    → Passes (slice_state before) (slice_state after) passed
+    → TakesInstruction settings (slice_state before) (slice_state after) decoded
     → bytes_taken settings before.left ≡ passed
 taken-instruction settings decoded before after passed law is passes takes =
     let bytes = before.left in
@@ -90,11 +101,13 @@ taken-instruction settings decoded before after passed law is passes takes =
     taken-bytes settings bytes passed rest split (number-read settings bytes (row, parts) rest walked)
 
 -- the notes that a decode of a slice leaves in a new list
-pub noted : (settings : List Bool) (bytes : List ℕ) (result : Result (Unit {0}) DecodeError) (before after : SliceReader) (decoded : Decoded) (old new : TripleList FieldDescription)
+pub noted : (settings : List Bool) (bytes : List ℕ) (result : Result (Unit {0}) DecodeError)
+    (before after : SliceReader) (decoded : Decoded) (old new : TripleList FieldDescription)
     → ReadingIsSpelling → IsBytes bytes → before.left ≡ bytes
     → OnOk result (TakesInstruction settings (marked (slice_state before)) (slice_state after) decoded)
     → IfErr result (BlocksSlice settings (marked (slice_state before)) (slice_state after))
-    → NotesTaken (marked (slice_state before)) (slice_state after) (list_state old) (list_state new) → old.kept ≡ [] → IsTrue old.whole
+    → NotesTaken (marked (slice_state before)) (slice_state after) (list_state old) (list_state new) → old.kept ≡ []
+    → IsTrue old.whole
     → new.kept ≡ notes (bytes_taken settings bytes)
 noted settings bytes result before after decoded old new law is left takes blocks given empty whole =
     kept-all old new (notes given.bytes) empty whole given.few given.records
@@ -102,7 +115,10 @@ noted settings bytes result before after decoded old new law is left takes block
       start : SliceReader
       start = record before { since_mark = 0 }
 
-      by : (result : Result (Unit {0}) DecodeError) → OnOk result (TakesInstruction settings (slice_state start) (slice_state after) decoded)
-          → IfErr result (BlocksSlice settings (slice_state start) (slice_state after)) → bytes_taken settings start.left ≡ given.bytes
-      by (Ok done) took blocked_by = taken-instruction settings decoded start after given.bytes law (subst IsBytes (sym left) is) given.passes took
+      by : (result : Result (Unit {0}) DecodeError)
+          → OnOk result (TakesInstruction settings (slice_state start) (slice_state after) decoded)
+          → IfErr result (BlocksSlice settings (slice_state start) (slice_state after))
+          → bytes_taken settings start.left ≡ given.bytes
+      by (Ok done) took blocked_by = taken-instruction settings decoded start after given.bytes law
+          (subst IsBytes (sym left) is) given.passes took
       by (Err error) took blocked_by = taken-refused settings error start after given.bytes given.passes blocked_by

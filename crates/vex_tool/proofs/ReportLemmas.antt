@@ -1,12 +1,14 @@
 -- What is written for a line, by what decoding its digits answered.
-use Rattle.std.proofs.Common.{◌≡◌, ℕ, ◌/◌, ◌<◌, ◌≤◌, Bool, true, cond, ltb, List, ◌++◌, length, take, Result, Ok, Err, ap, ◌∙◌, sym, refl, arith}
+use Rattle.std.proofs.Common.{◌≡◌, ℕ, ◌/◌, ◌<◌, ◌≤◌, Bool, true, cond, ltb, List, ◌++◌, length, take, Result, Ok, Err}
+use Rattle.std.proofs.Common.{ap, ◌∙◌, sym, refl, arith}
 use Rattle.std.specs.Prelude.{MatchResult}
 use Rattle.std.proofs.lemmas.Bool.Decides.{nat_tests}
 use Rattle.std.proofs.lemmas.List.{take_at}
 use Rattle.hex.specs.Hex.{decode_of, decode_sized}
 use Rattle.hex.specs.declared.error.FromHexError.{FromHexError}
 use Rattle.vex_tool.specs.declared.command.Command.{Command}
-use Rattle.vex_tool.specs.declared.command.Command.TheVariants.{Recode, Sweep, Notes, Asm, Emulate, Spellings, Least, Make}
+use Rattle.vex_tool.specs.declared.command.Command.TheVariants.{Recode, Sweep, Notes, Asm, Emulate, Spellings, Least}
+use Rattle.vex_tool.specs.declared.command.Command.TheVariants.{Make}
 use Rattle.vex_tool.specs.declared.report.LineError.TheVariants.{BadHex, LongLine}
 use Rattle.vex_tool.specs.Report.{report, code, code_report, digits, or_bad_hex, taken}
 use Rattle.vex_tool.proofs.LineMachineLemmas.{SameForLong}
@@ -16,7 +18,8 @@ decode_sized-half : (text : List ℕ) → decode_sized text (length text / 2) �
 decode_sized-half text = grind (arith, nat_tests)
 
 -- a line that isn't too long writes what its digits do
-pub code-short : (line text : List ℕ) → length line ≤ 8192 → text ≡ digits line → code line ≡ or_bad_hex (decode_of text)
+pub code-short : (line text : List ℕ) → length line ≤ 8192 → text ≡ digits line
+    → code line ≡ or_bad_hex (decode_of text)
 unfolding code
 code-short line text short is = rw is (grind (arith, nat_tests))
 
@@ -29,7 +32,8 @@ decoded_ok : (r : Result (List ℕ) FromHexError) (answer : Result (Unit {0}) Fr
 decoded_ok (Ok bytes) answer out x h e = ap Ok (sym h.1)
 decoded_ok (Err d) answer out x h e = cc
 
-decoded_err : (r : Result (List ℕ) FromHexError) (answer : Result (Unit {0}) FromHexError) (out : List ℕ) (d : FromHexError)
+decoded_err : (r : Result (List ℕ) FromHexError) (answer : Result (Unit {0}) FromHexError) (out : List ℕ)
+    (d : FromHexError)
     → Decoded r answer out → answer ≡ Err d → or_bad_hex r ≡ Err BadHex
 decoded_err (Ok bytes) answer out d h e = let both = h.0 in cc
 decoded_err (Err x) answer out d h e = refl
@@ -46,7 +50,8 @@ from_decoded text room out answer h =
     ap or_bad_hex (sym (decode_sized-half text)) ∙ ap (λ n. or_bad_hex (decode_sized text n)) (sym h.half)
 
 -- digits that write bytes
-pub bytes-decoded : (text room out rest : List ℕ) (answer : Result (Unit {0}) FromHexError) (x : Unit {0}) → IsDecoded text room out answer
+pub bytes-decoded : (text room out rest : List ℕ) (answer : Result (Unit {0}) FromHexError) (x : Unit {0})
+    → IsDecoded text room out answer
     → answer ≡ Ok x → or_bad_hex (decode_of text) ≡ Ok (take (length text / 2) (out ++ rest))
 bytes-decoded text room out rest answer x h e =
     from_decoded text room out answer h
@@ -54,7 +59,8 @@ bytes-decoded text room out rest answer x h e =
     ∙ ap Ok (sym (take_at out rest (length text / 2) (h.same_len ∙ h.half)))
 
 -- digits that write none
-pub bytes-refused : (text room out : List ℕ) (answer : Result (Unit {0}) FromHexError) (d : FromHexError) → IsDecoded text room out answer
+pub bytes-refused : (text room out : List ℕ) (answer : Result (Unit {0}) FromHexError) (d : FromHexError)
+    → IsDecoded text room out answer
     → answer ≡ Err d → or_bad_hex (decode_of text) ≡ Err BadHex
 bytes-refused text room out answer d h e =
     from_decoded text room out answer h ∙ decoded_err (decode_sized text (length room)) answer out d h.decoded e

@@ -27,17 +27,21 @@ unfolding result_line
 line-recoded law settings bytes n m canonical begun within spells c =
     let row = spells.row in
     let parts = spells.by.parts in
-    let walked : walk bytes ≡ Ok ((row, parts), drop n bytes) = ap walk (sym (take-append-drop n bytes)) ∙ law (take n bytes) (drop n bytes) m spells in
+    let walked : walk bytes ≡ Ok ((row, parts), drop n bytes) =
+    ap walk (sym (take-append-drop n bytes)) ∙ law (take n bytes) (drop n bytes) m spells in
     ap (line_unless_blocked bytes) begun
     ∙ ap (line_of_reading bytes) walked
-    ∙ ap (λ k. instruction_line k (meant row parts) (unwrap_or (canon (meant row parts)) [])) (taken-front bytes n within)
+    ∙ ap (λ k. instruction_line k (meant row parts) (unwrap_or (canon (meant row parts)) []))
+    (taken-front bytes n within)
     ∙ ap (λ meaning. instruction_line n meaning (unwrap_or (canon meaning) [])) (sym spells.by.means)
     ∙ ap (λ c. instruction_line n m (unwrap_or c [])) c
 
 -- what is read of bytes that a spelling begins
-pub walked : SpellingIsRead → (bytes : List ℕ) (n : ℕ) (m : Meaning) → n ≤ length bytes → (spells : Spells (take n bytes) m)
+pub walked : SpellingIsRead → (bytes : List ℕ) (n : ℕ) (m : Meaning) → n ≤ length bytes
+    → (spells : Spells (take n bytes) m)
     → walk bytes ≡ Ok ((spells.row, spells.by.parts), drop n bytes)
-walked law bytes n m within spells = ap walk (sym (take-append-drop n bytes)) ∙ law (take n bytes) (drop n bytes) m spells
+walked law bytes n m within spells = ap walk (sym (take-append-drop n bytes))
+    ∙ law (take n bytes) (drop n bytes) m spells
 
 -- bytes that an error blocks have no recoding
 pub recoding-refused : RecodingOfError

@@ -1,5 +1,6 @@
 -- The loop over the input: what is so between two reads, and how each end follows from it.
-use Rattle.std.proofs.Common.{◌≡◌, ℕ, ◌+◌, ◌-◌, ◌<◌, ◌≤◌, ◌≢◌, List, [], ◌∷◌, ◌++◌, length, take, Option, Some, Err, append_assoc, subst, sym, ap, ◌∙◌, refl, inl, inr, arith}
+use Rattle.std.proofs.Common.{◌≡◌, ℕ, ◌+◌, ◌-◌, ◌<◌, ◌≤◌, ◌≢◌, List, [], ◌∷◌, ◌++◌, length, take, Option, Some, Err}
+use Rattle.std.proofs.Common.{append_assoc, subst, sym, ap, ◌∙◌, refl, inl, inr, arith}
 use Rattle.std.specs.Prelude.{IsSomeAnd}
 use Rattle.std.specs.Io.KnownBytes.{Appends, Consumes, Keeps, IsAtEnd}
 use Rattle.std.specs.List.{flat_map}
@@ -13,21 +14,25 @@ use Rattle.vex_tool.specs.Lines.{lines, whole}
 use Rattle.vex_tool.specs.LineMachine.{EndedBefore, line_after, ended, last}
 use Rattle.vex_tool.specs.Run.{Moment, Ran, input_limit}
 use Rattle.vex_tool.specs.Status.{status_of_halt}
-use Rattle.vex_tool.proofs.EndsLemmas.{Appends-keeps, Appends-none, Appends-then, AppendsFront-all, AppendsFront-then, AppendsFront-more, Consumes-none, Consumes-then, Consumes-keeps}
-use Rattle.vex_tool.proofs.LineMachineLemmas.{SameForLong, begun-is, begun_line, ended-append, ended_lines, line_after-append, lines-ended, lines-last, output-ended, output-ended_lines, output-whole}
+use Rattle.vex_tool.proofs.EndsLemmas.{Appends-keeps, Appends-none, Appends-then, AppendsFront-all, AppendsFront-then}
+use Rattle.vex_tool.proofs.EndsLemmas.{AppendsFront-more, Consumes-none, Consumes-then, Consumes-keeps}
+use Rattle.vex_tool.proofs.LineMachineLemmas.{SameForLong, begun-is, begun_line, ended-append, ended_lines}
+use Rattle.vex_tool.proofs.LineMachineLemmas.{line_after-append, lines-ended, lines-last, output-ended}
+use Rattle.vex_tool.proofs.LineMachineLemmas.{output-ended_lines, output-whole}
 
 -- between two reads: what was taken so far, how much room there is to the limit, and what is kept of the
 -- unfinished line
-pub record Going (f : List ℕ → List ℕ) (before : Moment) (line : Option (List ℕ)) (room : ℕ) (now : Moment) : Type 0 where
-  pub front : List ℕ
-  pub taken : Consumes before.left now.left front
-  pub start : length front ≡ 0 → now.given ≡ before.given
-  pub number : 0 < length front → now.given ≡ counted before.given (length front)
-  pub to_limit : length front + room ≡ input_limit
-  pub kept : line ≡ line_after (Some []) front
-  pub written : Appends before.text now.text (ended f (Some []) front)
-  pub source_quiet : now.source_faults ≡ before.source_faults
-  pub sink_quiet : now.sink_faults ≡ before.sink_faults
+pub record Going (f : List ℕ → List ℕ) (before : Moment) (line : Option (List ℕ)) (room : ℕ) (now : Moment) : Type 0
+  where
+    pub front : List ℕ
+    pub taken : Consumes before.left now.left front
+    pub start : length front ≡ 0 → now.given ≡ before.given
+    pub number : 0 < length front → now.given ≡ counted before.given (length front)
+    pub to_limit : length front + room ≡ input_limit
+    pub kept : line ≡ line_after (Some []) front
+    pub written : Appends before.text now.text (ended f (Some []) front)
+    pub source_quiet : now.source_faults ≡ before.source_faults
+    pub sink_quiet : now.sink_faults ≡ before.sink_faults
 
 -- a read gave a piece
 pub record Gave (piece : List ℕ) (now mid : Moment) : Type 0 where
@@ -56,8 +61,10 @@ module _ (f : List ℕ → List ℕ) (before : Moment) where
   }
 
   -- what the sink held back was handed on
-  pub Going-handed_on : (line : Option (List ℕ)) (room : ℕ) (now : Moment) (text : Option (List ℕ)) (faults : ℕ) → Going f before line room now
-      → Keeps now.text text → faults ≡ now.sink_faults → Going f before line room (record now { text = text; sink_faults = faults })
+  pub Going-handed_on : (line : Option (List ℕ)) (room : ℕ) (now : Moment) (text : Option (List ℕ)) (faults : ℕ)
+      → Going f before line room now
+      → Keeps now.text text → faults ≡ now.sink_faults
+      → Going f before line room (record now { text = text; sink_faults = faults })
   Going-handed_on line room now text faults going keeps quiet = record {
     front = going.front;
     taken = going.taken;
@@ -70,10 +77,12 @@ module _ (f : List ℕ → List ℕ) (before : Moment) where
     sink_quiet = quiet ∙ going.sink_quiet;
   }
 
-  module _ (P : List ℕ → Type 0) (line : Option (List ℕ)) (room : ℕ) (now : Moment) (going : Going f before line room now) where
+  module _ (P : List ℕ → Type 0) (line : Option (List ℕ)) (room : ℕ) (now : Moment)
+      (going : Going f before line room now) where
     -- ---- what was taken, with one more piece
 
-    taken-more : (piece : List ℕ) (mid : Moment) → Gave piece now mid → Consumes before.left mid.left (going.front ++ piece)
+    taken-more : (piece : List ℕ) (mid : Moment) → Gave piece now mid
+        → Consumes before.left mid.left (going.front ++ piece)
     taken-more piece mid gave = Consumes-then before.left now.left mid.left going.front piece going.taken gave.taken
 
     number-more : (piece : List ℕ) (mid : Moment) → Gave piece now mid → 0 < length (going.front ++ piece)
@@ -83,7 +92,8 @@ module _ (f : List ℕ → List ℕ) (before : Moment) where
         elim (cases_lt 0 (length going.front)) [
           | inl more ↦
               let old = going.number more in
-              gave.number ∙ ap (λ n. counted n (length piece)) old ∙ counted-counted before.given (length going.front) (length piece)
+              gave.number ∙ ap (λ n. counted n (length piece)) old
+              ∙ counted-counted before.given (length going.front) (length piece)
               ∙ ap (counted before.given) (sym len)
           | inr none ↦
               let old = going.start (omega arith) in
@@ -98,17 +108,20 @@ module _ (f : List ℕ → List ℕ) (before : Moment) where
           | inr none ↦ let is = going.start (omega arith) in omega arith
         ]
 
-    number-at_most-more : (piece : List ℕ) (mid : Moment) → Gave piece now mid → mid.given ≤ before.given + length (going.front ++ piece)
+    number-at_most-more : (piece : List ℕ) (mid : Moment) → Gave piece now mid
+        → mid.given ≤ before.given + length (going.front ++ piece)
     number-at_most-more piece mid gave =
         let len = length-append going.front piece in
         let so_far = number-at_most in
         let is = gave.number in
         omega arith
 
-    written-more : (piece : List ℕ) (mid : Moment) → Gave piece now mid → Appends before.text mid.text (ended f (Some []) going.front)
+    written-more : (piece : List ℕ) (mid : Moment) → Gave piece now mid
+        → Appends before.text mid.text (ended f (Some []) going.front)
     written-more piece mid gave = rw gave.text going.written
 
-    ended-more : (piece : List ℕ) → ended f (Some []) (going.front ++ piece) ≡ ended f (Some []) going.front ++ ended f line piece
+    ended-more : (piece : List ℕ) → ended f (Some []) (going.front ++ piece)
+        ≡ ended f (Some []) going.front ++ ended f line piece
     ended-more piece =
         ended-append f (Some []) going.front piece
         ∙ ap (λ k. ended f (Some []) going.front ++ ended f k piece) (sym going.kept)
@@ -129,7 +142,8 @@ module _ (f : List ℕ → List ℕ) (before : Moment) where
           number = number-more piece mid gave;
           to_limit = omega arith;
           kept = kept ∙ ap (λ k. line_after k piece) going.kept ∙ sym (line_after-append (Some []) going.front piece);
-          written = rw (ended-more piece) (Appends-then before.text mid.text text _ _ (written-more piece mid gave) written);
+          written = rw (ended-more piece) (Appends-then before.text mid.text text _ _ (written-more piece mid gave)
+              written);
           source_quiet = gave.source_quiet ∙ going.source_quiet;
           sink_quiet = quiet ∙ gave.sink_quiet ∙ going.sink_quiet;
         }
@@ -165,7 +179,8 @@ module _ (f : List ℕ → List ℕ) (before : Moment) where
           };
         }
 
-    pub Ran-flush_fault : SameForLong f → (text : Option (List ℕ)) (faults : ℕ) → Keeps now.text text → RoseOrIsLast now.sink_faults faults
+    pub Ran-flush_fault : SameForLong f → (text : Option (List ℕ)) (faults : ℕ) → Keeps now.text text
+        → RoseOrIsLast now.sink_faults faults
         → Ran f P WriteFault before (record now { text = text; sink_faults = faults })
     Ran-flush_fault long text faults keeps cause =
         let limit = going.to_limit in
@@ -177,13 +192,16 @@ module _ (f : List ℕ → List ℕ) (before : Moment) where
           ends = record {
             within = omega arith;
             written = rw (output-going long)
-                (AppendsFront-more before.text text _ _ (AppendsFront-all before.text text _ (Appends-keeps before.text now.text text _ going.written keeps)));
+                (AppendsFront-more before.text text _ _
+                (AppendsFront-all before.text text _
+                (Appends-keeps before.text now.text text _ going.written keeps)));
             source_quiet = going.source_quiet;
             cause = rw going.sink_quiet at cause;
           };
         }
 
-    pub Ran-too_long : SameForLong f → (piece : List ℕ) (mid : Moment) → Gave piece now mid → room ≡ 0 → length piece ≡ 1
+    pub Ran-too_long : SameForLong f → (piece : List ℕ) (mid : Moment) → Gave piece now mid → room ≡ 0
+        → length piece ≡ 1
         → Ran f P TooLong before mid
     Ran-too_long long piece mid gave full one =
         let len = length-append going.front piece in
@@ -196,7 +214,8 @@ module _ (f : List ℕ → List ℕ) (before : Moment) where
           at_most = number-at_most-more piece mid gave;
           ends = record {
             past = omega arith;
-            written = rw (take_at going.front piece input_limit at_limit) (whole-written mid.text long (written-more piece mid gave));
+            written = rw (take_at going.front piece input_limit at_limit)
+                (whole-written mid.text long (written-more piece mid gave));
             source_quiet = gave.source_quiet ∙ going.source_quiet;
             sink_quiet = gave.sink_quiet ∙ going.sink_quiet;
           };
@@ -205,13 +224,15 @@ module _ (f : List ℕ → List ℕ) (before : Moment) where
     taken-none : (mid : Moment) → Gave [] now mid → Consumes before.left mid.left going.front
     taken-none mid gave = rw append-nil at (taken-more [] mid gave)
 
-    number-none : (mid : Moment) → Gave [] now mid → 0 < length going.front → mid.given ≡ counted before.given (length going.front)
+    number-none : (mid : Moment) → Gave [] now mid → 0 < length going.front
+        → mid.given ≡ counted before.given (length going.front)
     number-none mid gave = rw append-nil at (number-more [] mid gave)
 
     number-at_most-none : (mid : Moment) → Gave [] now mid → mid.given ≤ before.given + length going.front
     number-at_most-none mid gave = rw append-nil at (number-at_most-more [] mid gave)
 
-    pub Ran-done : SameForLong f → (mid : Moment) (text : Option (List ℕ)) (faults : ℕ) → Gave [] now mid → IsAtEnd mid.left
+    pub Ran-done : SameForLong f → (mid : Moment) (text : Option (List ℕ)) (faults : ℕ) → Gave [] now mid
+        → IsAtEnd mid.left
         → Appends mid.text text (last f line) → faults ≡ mid.sink_faults
         → Ran f P Done before (record mid { text = text; sink_faults = faults })
     Ran-done long mid text faults gave at_end written quiet =
@@ -224,7 +245,8 @@ module _ (f : List ℕ → List ℕ) (before : Moment) where
           ends = record {
             within = omega arith;
             at_end = at_end;
-            written = rw (output-going long) (Appends-then before.text mid.text text _ _ (written-more [] mid gave) written);
+            written = rw (output-going long) (Appends-then before.text mid.text text _ _ (written-more [] mid gave)
+                written);
             source_quiet = gave.source_quiet ∙ going.source_quiet;
             sink_quiet = quiet ∙ gave.sink_quiet ∙ going.sink_quiet;
           };
@@ -242,13 +264,15 @@ module _ (f : List ℕ → List ℕ) (before : Moment) where
           at_most = number-at_most-none mid gave;
           ends = record {
             within = omega arith;
-            written = rw (output-going long) (AppendsFront-then before.text mid.text text _ _ (written-more [] mid gave) written);
+            written = rw (output-going long) (AppendsFront-then before.text mid.text text _ _
+                (written-more [] mid gave) written);
             source_quiet = gave.source_quiet ∙ going.source_quiet;
             cause = rw (gave.sink_quiet ∙ going.sink_quiet) at cause;
           };
         }
 
-    pub Ran-feed_fault : SameForLong f → (piece : List ℕ) (mid : Moment) (text : Option (List ℕ)) (faults : ℕ) → Gave piece now mid
+    pub Ran-feed_fault : SameForLong f → (piece : List ℕ) (mid : Moment) (text : Option (List ℕ)) (faults : ℕ)
+        → Gave piece now mid
         → length piece ≤ room → AppendsFront mid.text text (ended f line piece) → RoseOrIsLast mid.sink_faults faults
         → Ran f P WriteFault before (record mid { text = text; sink_faults = faults })
     Ran-feed_fault long piece mid text faults gave fits written cause =
@@ -262,7 +286,8 @@ module _ (f : List ℕ → List ℕ) (before : Moment) where
           ends = record {
             within = omega arith;
             written = rw (output-ended f long (going.front ++ piece), ended-more piece)
-                (AppendsFront-more before.text text _ _ (AppendsFront-then before.text mid.text text _ _ (written-more piece mid gave) written));
+                (AppendsFront-more before.text text _ _
+                (AppendsFront-then before.text mid.text text _ _ (written-more piece mid gave) written));
             source_quiet = gave.source_quiet ∙ going.source_quiet;
             cause = rw (gave.sink_quiet ∙ going.sink_quiet) at cause;
           };
@@ -271,7 +296,8 @@ module _ (f : List ℕ → List ℕ) (before : Moment) where
     -- ---- there is no memory
 
     -- the bytes before the line that lacked it, and what follows
-    pub Ran-feed_lacked : SameForLong f → (piece : List ℕ) (mid : Moment) (text : Option (List ℕ)) (faults : ℕ) (written : List ℕ)
+    pub Ran-feed_lacked : SameForLong f → (piece : List ℕ) (mid : Moment) (text : Option (List ℕ)) (faults : ℕ)
+        (written : List ℕ)
         → Gave piece now mid → length piece ≤ room → EndedBefore f P line piece written → Appends mid.text text written
         → faults ≡ mid.sink_faults → Ran f P NoMemory before (record mid { text = text; sink_faults = faults })
     Ran-feed_lacked long piece mid text faults written gave fits ended_before appended quiet =
@@ -279,7 +305,8 @@ module _ (f : List ℕ → List ℕ) (before : Moment) where
         let limit = going.to_limit in
         let here : List ℕ = going.front ++ ended_before.front in
         let kept : line_after line ended_before.front ≡ line_after (Some []) here =
-        ap (λ k. line_after k ended_before.front) going.kept ∙ sym (line_after-append (Some []) going.front ended_before.front) in
+        ap (λ k. line_after k ended_before.front) going.kept
+        ∙ sym (line_after-append (Some []) going.front ended_before.front) in
         record {
           bytes = going.front ++ piece;
           taken = taken-more piece mid gave;
@@ -297,7 +324,8 @@ module _ (f : List ℕ → List ℕ) (before : Moment) where
                   ∙ lines-ended here ended_before.rest;
               is = begun-is here P (subst (λ k. IsSomeAnd k P) kept ended_before.line);
               written = rw (output-ended_lines f long here, ended-more ended_before.front)
-                  (Appends-then before.text mid.text text _ _ (written-more piece mid gave) (subst (λ t. Appends mid.text text t) ended_before.gives appended));
+                  (Appends-then before.text mid.text text _ _ (written-more piece mid gave)
+                  (subst (λ t. Appends mid.text text t) ended_before.gives appended));
             };
             source_quiet = gave.source_quiet ∙ going.source_quiet;
             sink_quiet = quiet ∙ gave.sink_quiet ∙ going.sink_quiet;
@@ -332,9 +360,11 @@ module _ (f : List ℕ → List ℕ) (before : Moment) where
 
     -- ---- by what stopped the answers
 
-    pub Ran-feed_halted : SameForLong f → (piece : List ℕ) (mid : Moment) (text : Option (List ℕ)) (faults : ℕ) (halt : Halt)
+    pub Ran-feed_halted : SameForLong f → (piece : List ℕ) (mid : Moment) (text : Option (List ℕ)) (faults : ℕ)
+        (halt : Halt)
         → Gave piece now mid → length piece ≤ room
-        → Answers (λ written. EndedBefore f P line piece written) (Err halt) mid.text text mid.sink_faults faults (ended f line piece)
+        → Answers (λ written. EndedBefore f P line piece written) (Err halt) mid.text text mid.sink_faults faults
+        (ended f line piece)
         → Ran f P (status_of_halt halt) before (record mid { text = text; sink_faults = faults })
     Ran-feed_halted long piece mid text faults halt.WriteFault gave fits h =
         Ran-feed_fault long piece mid text faults gave fits (h.front refl) (h.cause refl)
@@ -342,13 +372,17 @@ module _ (f : List ℕ → List ℕ) (before : Moment) where
         let lacked = h.lacked refl in
         Ran-feed_lacked long piece mid text faults lacked.0 gave fits lacked.1 lacked.2 (h.lacked_quiet refl)
 
-    pub Ran-finish_halted : SameForLong f → (mid : Moment) (text : Option (List ℕ)) (faults : ℕ) (halt : Halt) → Gave [] now mid
-        → Answers (λ written. (written ≡ []) × (line ≢ Some []) × IsSomeAnd line P) (Err halt) mid.text text mid.sink_faults faults (last f line)
+    pub Ran-finish_halted : SameForLong f → (mid : Moment) (text : Option (List ℕ)) (faults : ℕ) (halt : Halt)
+        → Gave [] now mid
+        → Answers (λ written. (written ≡ []) × (line ≢ Some []) × IsSomeAnd line P) (Err halt) mid.text text
+        mid.sink_faults faults (last f line)
         → Ran f P (status_of_halt halt) before (record mid { text = text; sink_faults = faults })
-    Ran-finish_halted long mid text faults halt.WriteFault gave h = Ran-finish_fault long mid text faults gave (h.front refl) (h.cause refl)
+    Ran-finish_halted long mid text faults halt.WriteFault gave h =
+        Ran-finish_fault long mid text faults gave (h.front refl) (h.cause refl)
     Ran-finish_halted long mid text faults halt.NoMemory gave h =
         let lacked = h.lacked refl in
-        Ran-finish_lacked long mid text faults gave lacked.1.1 lacked.1.2 (subst (λ t. Appends mid.text text t) lacked.1.0 lacked.2) (h.lacked_quiet refl)
+        Ran-finish_lacked long mid text faults gave lacked.1.1 lacked.1.2
+        (subst (λ t. Appends mid.text text t) lacked.1.0 lacked.2) (h.lacked_quiet refl)
 
 -- a read put n bytes into the first places
 pub Gave-read : (now : Moment) (left : Option (List ℕ)) (given faults n : ℕ) (into : List ℕ) → n ≤ length into

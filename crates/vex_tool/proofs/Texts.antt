@@ -1,5 +1,6 @@
 -- How long a note is, and that hex digits are a text.
-use Rattle.std.specs.Prelude.{◌≡◌, refl, ℕ, ◌<◌, ◌≤◌, ◌/◌, ◌%◌, nat_le, nat_lt, Bool, true, ◌&&◌, List, [], ◌∷◌, length, slice_index, IsUtf8}
+use Rattle.std.specs.Prelude.{◌≡◌, refl, ℕ, ◌<◌, ◌≤◌, ◌/◌, ◌%◌, nat_le, nat_lt, Bool, true, ◌&&◌, List, [], ◌∷◌, length}
+use Rattle.std.specs.Prelude.{slice_index, IsUtf8}
 use Rattle.std.proofs.Common.{arith}
 use Rattle.std.proofs.lemmas.Bool.{and_parts}
 use Rattle.std.proofs.lemmas.Bool.Decides.{nat_tests}
@@ -41,7 +42,8 @@ ascii_hex : (bs : List ℕ) → IsAscii (encode_lower bs)
 unfolding encode_with
 ascii_hex [] = IsAscii-nil
 ascii_hex (b ∷ bs) =
-    IsAscii-cons (slice_index lower_digits (b / 16)) (slice_index lower_digits (b % 16) ∷ encode_lower bs) (ascii_digits (b / 16))
+    IsAscii-cons (slice_index lower_digits (b / 16)) (slice_index lower_digits (b % 16) ∷ encode_lower bs)
+    (ascii_digits (b / 16))
     (IsAscii-cons (slice_index lower_digits (b % 16)) (encode_lower bs) (ascii_digits (b % 16)) (ascii_hex bs))
 
 -- hex digits are UTF-8

@@ -10,7 +10,8 @@ use Rattle.vex_tool.specs.ErrorLine.{error_line}
 -- the line of the canonical bytes of a meaning, whose opcode is permitted or not
 abbrev pub bytes_line : Bool → Option (List ℕ) → List ℕ
 bytes_line permitted None = error_line (codes "NoSpelling")
-bytes_line permitted (Some bytes) = if permitted then encode_lower bytes ++ codes "\n" else error_line (codes "InvalidOpcode")
+bytes_line permitted (Some bytes) = if permitted then encode_lower bytes
+    ++ codes "\n" else error_line (codes "InvalidOpcode")
 
 -- the line of a meaning under settings
 abbrev pub meaning_line : List Bool → Option Meaning → List ℕ

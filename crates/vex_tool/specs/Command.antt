@@ -1,9 +1,11 @@
 -- Which command the words ask for.
-use Rattle.std.specs.Prelude.{ℕ, ◌&&◌, nat_le, List, [], ◌∷◌, codes, decimal, Option, Some, None, if◌then◌else◌, option_map, bytes_eq}
+use Rattle.std.specs.Prelude.{ℕ, ◌&&◌, nat_le, List, [], ◌∷◌, codes, decimal, Option, Some, None, if◌then◌else◌}
+use Rattle.std.specs.Prelude.{option_map, bytes_eq}
 use Rattle.std.specs.Str.Parse.{digits_value}
 use Rattle.x86_uarch.specs.Profiles.{profile_of}
 use Rattle.vex_tool.specs.declared.command.Command.{Command}
-use Rattle.vex_tool.specs.declared.command.Command.TheVariants.{Recode, Sweep, Notes, Asm, Emulate, Spellings, Least, Make}
+use Rattle.vex_tool.specs.declared.command.Command.TheVariants.{Recode, Sweep, Notes, Asm, Emulate, Spellings, Least}
+use Rattle.vex_tool.specs.declared.command.Command.TheVariants.{Make}
 
 -- a number of spellings to make, where a word writes it
 abbrev pub count_written : List ℕ → ℕ → Option ℕ
@@ -40,8 +42,8 @@ command_of_two verb name =
 abbrev pub command_of_one : List ℕ → Option Command
 command_of_one verb = if bytes_eq verb (codes "least") then Some Least else None
 
--- the command that the words ask for: `recode P`, `sweep P`, `notes P`, `asm P`, `emulate P` or `spellings P`, where P names
--- a profile, `least`, or `make N`, where N writes a number
+-- the command that the words ask for: `recode P`, `sweep P`, `notes P`, `asm P`, `emulate P` or `spellings P`, where P
+-- names a profile, `least`, or `make N`, where N writes a number
 abbrev pub command : List (List ℕ) → Option Command
 command (verb ∷ []) = command_of_one verb
 command (verb ∷ name ∷ []) = command_of_two verb name

@@ -1,5 +1,6 @@
 -- The lines of what the run of code changes, on a machine that starts anew for each line.
-use Rattle.std.specs.Prelude.{ℕ, ◌*◌, ◌%◌, Bool, List, [], ◌++◌, codes, decimal, map, flat_map, bytes_eq, slice_index_or, if◌then◌else◌, Result, Ok, Err}
+use Rattle.std.specs.Prelude.{ℕ, ◌*◌, ◌%◌, Bool, List, [], ◌++◌, codes, decimal, map, flat_map, bytes_eq}
+use Rattle.std.specs.Prelude.{slice_index_or, if◌then◌else◌, Result, Ok, Err}
 use Rattle.std.specs.List.{range_with_len}
 use Rattle.std.specs.Simd.Lanes.{chunk}
 use Rattle.hex.specs.Hex.{encode_lower}
@@ -31,8 +32,8 @@ start = record {
   memory = start_memory;
 }
 
--- the line of some bytes: a letter and a number, which name them, and the bytes in hex digits; none where they are as at
--- the start
+-- the line of some bytes: a letter and a number, which name them, and the bytes in hex digits; none where they are as
+-- at the start
 unfoldable pub changed_line : List ℕ → ℕ → List ℕ → List ℕ → List ℕ
 changed_line letter number bytes first =
     if bytes_eq bytes first then [] else letter ++ decimal number ++ codes " " ++ encode_lower bytes ++ codes "\n"

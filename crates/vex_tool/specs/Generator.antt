@@ -1,5 +1,6 @@
 -- The spellings that `make` generates, and the line that sums up how they are recoded.
-use Rattle.std.specs.Prelude.{ℕ, zero, suc, ◌+◌, ◌*◌, ◌/◌, ◌%◌, ◌==◌, Bool, true, false, not, ◌&&◌, List, [], ◌∷◌, ◌++◌, length, codes, decimal, slice_get, unwrap_or, Option, Some, None, Ok, Err, if◌then◌else◌}
+use Rattle.std.specs.Prelude.{ℕ, zero, suc, ◌+◌, ◌*◌, ◌/◌, ◌%◌, ◌==◌, Bool, true, false, not, ◌&&◌, List, [], ◌∷◌, ◌++◌}
+use Rattle.std.specs.Prelude.{length, codes, decimal, slice_get, unwrap_or, Option, Some, None, Ok, Err, if◌then◌else◌}
 use Rattle.std.specs.List.{sum}
 use Rattle.x86_operand.specs.declared.error.DecodeError.{DecodeError}
 use Rattle.x86_settings.specs.Bits.{all_bits}
@@ -105,7 +106,8 @@ imm_made t = 16 * (t % 16) + 5
 abbrev pub bytes_made : Row → Bool → ℕ → List ℕ
 bytes_made row memory t =
     prefix_bytes C4 (fields_made row t)
-    ++ row.entry.byte ∷ (operand_bytes (steps row.entry.form).modrm memory (unwrap_or row.group (t % 8)) t ++ imm_bytes (has_imm row) (imm_made t))
+    ++ row.entry.byte ∷ (operand_bytes (steps row.entry.form).modrm memory (unwrap_or row.group (t % 8)) t
+    ++ imm_bytes (has_imm row) (imm_made t))
 
 -- the spelling by the row of an entry that was found in round t
 abbrev pub spelling_by : Entry → Bool → Bool → ℕ → Option (Bool × ℕ) → List ℕ
@@ -116,7 +118,8 @@ spelling_by entry w l t (Some kind) = bytes_made (row_for entry w l kind.0 kind.
 abbrev pub spelling_of : Option Entry → ℕ → List ℕ
 spelling_of None t = []
 spelling_of (Some entry) t =
-    spelling_by entry (w_made entry.w t) (l_made entry.l entry.form t) t (kind_made entry (w_made entry.w t) (l_made entry.l entry.form t) (bit_of t 1))
+    spelling_by entry (w_made entry.w t) (l_made entry.l entry.form t) t
+    (kind_made entry (w_made entry.w t) (l_made entry.l entry.form t) (bit_of t 1))
 
 -- the generated spelling of number i: the entries take turns in table order, and t counts the rounds
 unfoldable pub generated : ℕ → List ℕ
@@ -158,9 +161,10 @@ unfoldable pub total : (Option (ℕ × List ℕ) → ℕ) → ℕ → ℕ
 total f zero = 0
 total f (suc n) = total f n + f (recoding (generated n))
 
--- the line that sums up n generated spellings: how many are recoded, and over these the lengths read, the lengths of the
--- canonical bytes, and these bytes themselves
+-- the line that sums up n generated spellings: how many are recoded, and over these the lengths read, the lengths of
+-- the canonical bytes, and these bytes themselves
 unfoldable pub made : ℕ → List ℕ
 made n =
-    codes "made " ++ decimal n ++ codes " ok " ++ decimal (total one_of n) ++ codes " read " ++ decimal (total read_of n)
+    codes "made " ++ decimal n ++ codes " ok " ++ decimal (total one_of n) ++ codes " read "
+    ++ decimal (total read_of n)
     ++ codes " short " ++ decimal (total short_of n) ++ codes " sum " ++ decimal (total sum_of n) ++ codes "\n"

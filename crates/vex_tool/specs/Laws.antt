@@ -38,7 +38,8 @@ LineOfText =
 
 -- the line of what writes no meaning names this error
 abbrev pub LineOfNoText : Type 0
-LineOfNoText = (settings : List Bool) (line : List ℕ) → ((m : Meaning) → IsTextOf line m → ⊥) → asm_line settings line ≡ error_line (codes "BadText")
+LineOfNoText = (settings : List Bool) (line : List ℕ) → ((m : Meaning) → IsTextOf line m → ⊥)
+    → asm_line settings line ≡ error_line (codes "BadText")
 
 -- a result line is that of a meaning, whose text assembles under the same settings to the bytes at its end
 pub record IsAssembled (settings : List Bool) (bytes : List ℕ) : Type 0 where
@@ -46,7 +47,8 @@ pub record IsAssembled (settings : List Bool) (bytes : List ℕ) : Type 0 where
   pub meaning : Meaning
   pub canonical : List ℕ
   pub result : result_line settings bytes ≡ instruction_line n meaning canonical
-  pub assembles : (line : List ℕ) → words line ≡ text meaning → asm_line settings line ≡ encode_lower canonical ++ codes "\n"
+  pub assembles : (line : List ℕ) → words line ≡ text meaning
+      → asm_line settings line ≡ encode_lower canonical ++ codes "\n"
 
 -- where no error blocks the bytes, the text of their result line assembles to the bytes at its end
 abbrev pub ResultAssembles : List Bool → List ℕ → Type 0

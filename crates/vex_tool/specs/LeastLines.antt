@@ -1,5 +1,6 @@
 -- The lines of what a run of instructions needs.
-use Rattle.std.specs.Prelude.{ℕ, ◌==◌, Bool, false, List, [], ◌∷◌, ◌++◌, codes, decimal, flat_map, Option, Some, None, if◌then◌else◌}
+use Rattle.std.specs.Prelude.{ℕ, ◌==◌, Bool, false, List, [], ◌∷◌, ◌++◌, codes, decimal, flat_map, Option, Some, None}
+use Rattle.std.specs.Prelude.{if◌then◌else◌}
 use Rattle.x86_opcode.specs.Name.{opcode_name}
 use Rattle.x86_operand.specs.Errors.{decode_error_name}
 use Rattle.x86_settings.specs.Settings.{aesni, avx, bmi1, bmi2}
@@ -20,7 +21,8 @@ bit_name bit =
 
 -- the line of the first instruction that needs a bit: the bit's name, the place and the opcode
 abbrev pub need_line : First → List ℕ
-need_line first = codes "need " ++ bit_name first.bit ++ codes " " ++ decimal first.place ++ codes " " ++ opcode_name first.opcode ++ codes "\n"
+need_line first = codes "need " ++ bit_name first.bit ++ codes " " ++ decimal first.place ++ codes " "
+    ++ opcode_name first.opcode ++ codes "\n"
 
 -- whether a profile has every bit that is wanted
 abbrev pub accepted_by : List Bool → Option (List Bool) → Bool

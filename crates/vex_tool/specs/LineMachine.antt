@@ -1,7 +1,8 @@
 -- The line buffer as a machine over bytes: it keeps the bytes of the unfinished line, and none of them once
 -- the line is too long. What a line gives is left open, as f. Only the private module `line_buffer` cites this, and
 -- `stepped`, `kept_report` and `ended_at` only at its private functions.
-use Rattle.std.specs.Prelude.{◌≡◌, ℕ, ◌==◌, nat_lt, List, [], ◌∷◌, ◌++◌, length, codes, Option, Some, None, IsSomeAnd, if◌then◌else◌}
+use Rattle.std.specs.Prelude.{◌≡◌, ℕ, ◌==◌, nat_lt, List, [], ◌∷◌, ◌++◌, length, codes, Option, Some, None, IsSomeAnd}
+use Rattle.std.specs.Prelude.{if◌then◌else◌}
 use Rattle.vex_tool.specs.ErrorLine.{error_line}
 
 -- what is kept of a line, one byte on
@@ -43,7 +44,8 @@ last f (Some []) = []
 last f (Some (b ∷ bs)) = f (b ∷ bs)
 
 -- of more bytes, those before one that ends a line of which P holds end lines that give this text
-pub record EndedBefore (f : List ℕ → List ℕ) (P : List ℕ → Type 0) (kept : Option (List ℕ)) (bytes text : List ℕ) : Type 0 where
+pub record EndedBefore (f : List ℕ → List ℕ) (P : List ℕ → Type 0) (kept : Option (List ℕ)) (bytes text : List ℕ) :
+    Type 0 where
   pub front : List ℕ
   pub rest : List ℕ
   pub split : bytes ≡ front ++ 10 ∷ rest

@@ -23,7 +23,8 @@ whole [] = []
 whole (b ∷ bs) = onto_whole b (whole bs)
 
 -- what f gives of lines was written for the lines of these bytes that stand before one of which P holds
-pub record AnsweredBefore (f : List ℕ → List ℕ) (P : List ℕ → Type 0) (bytes : List ℕ) (old new : Option (List ℕ)) : Type 0 where
+pub record AnsweredBefore (f : List ℕ → List ℕ) (P : List ℕ → Type 0) (bytes : List ℕ) (old new : Option (List ℕ)) :
+    Type 0 where
   pub earlier : List (List ℕ)
   pub line : List ℕ
   pub later : List (List ℕ)

@@ -21,7 +21,8 @@ instruction_line n m bytes =
 
 -- the line of what a decode has read of some bytes
 abbrev pub line_of_reading : List ℕ → Reading (Row × Syntax) → List ℕ
-line_of_reading bytes (Ok read) = instruction_line (taken bytes read.1) (meant read.0.0 read.0.1) (unwrap_or (canon (meant read.0.0 read.0.1)) [])
+line_of_reading bytes (Ok read) = instruction_line (taken bytes read.1) (meant read.0.0 read.0.1)
+    (unwrap_or (canon (meant read.0.0 read.0.1)) [])
 line_of_reading bytes (Err error) = error_line (decode_error_name error.0)
 
 -- the line of some bytes that are blocked, or are not

@@ -42,7 +42,8 @@ pub record FailedWriting (f : List ℕ → List ℕ) (bytes : List ℕ) (before 
   pub cause : RoseOrIsLast before.sink_faults after.sink_faults
 
 -- there was no memory for a line, once those before it were answered
-pub record FailedAllocating (f : List ℕ → List ℕ) (P : List ℕ → Type 0) (bytes : List ℕ) (before after : Moment) : Type 0 where
+pub record FailedAllocating (f : List ℕ → List ℕ) (P : List ℕ → Type 0) (bytes : List ℕ) (before after : Moment) : Type
+    0 where
   pub within : length bytes ≤ input_limit
   pub answered : AnsweredBefore f P bytes before.text after.text
   pub source_quiet : after.source_faults ≡ before.source_faults

@@ -59,7 +59,8 @@ pub fn write_asm_line<K: Sink>(
     line: &[u8],
     sink: &mut K,
 ) -> Result<(), Failed>
-    ensures { Writes result (K.text sink.old) (K.text sink.new) (K.faults sink.old) (K.faults sink.new) (asm_line settings.now line.now) }
+    ensures { Writes result (K.text sink.old) (K.text sink.new) (K.faults sink.old) (K.faults sink.new)
+        (asm_line settings.now line.now) }
 {
     sink.write_all(asm_text(settings, line).as_str().as_bytes())
 }

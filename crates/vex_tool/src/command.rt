@@ -59,7 +59,8 @@ fn count_of(word: &str) -> Option<u32>
 
 impl Command {
     /// The command that the words ask for, `None` where they aren't `recode`, `sweep`, `notes`, `asm`, `emulate` or
-    /// `spellings` and the name of a profile, `least`, or `make` and a number. Whether a word was refused plays no part.
+    /// `spellings` and the name of a profile, `least`, or `make` and a number. Whether a word was refused plays no
+    /// part.
     pub fn of(words: &Words) -> Option<Command>
         ensures { result ≡ command words.now.0 }
     {

@@ -3,7 +3,8 @@
 ghost use Rattle.std.specs.Prelude.{◌≡◌, ◌≤◌, ◌+◌, ◌++◌, codes, decimal, length};
 ghost use Rattle.std.specs.Simd.Lanes.{chunk};
 ghost use Rattle.hex.specs.Hex.{encode_lower};
-ghost use Rattle.vex_tool.specs.EmulateLines.{block_lines, changed_line, counting, emulate_lines, ran_line, vector_lines};
+ghost use Rattle.vex_tool.specs.EmulateLines.{block_lines, changed_line, counting, emulate_lines, ran_line};
+ghost use Rattle.vex_tool.specs.EmulateLines.{vector_lines};
 ghost use Rattle.vex_emul.specs.Run.{ran};
 ghost use Rattle.vex_tool.specs.EmulateLines.{start};
 ghost use Rattle.vex_tool.specs.Ends.{Writes};

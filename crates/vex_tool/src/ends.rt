@@ -61,8 +61,8 @@ pub trait Sink {
         ensures cause { OnErr result (RoseOrIsLast (faults self.old) (faults self.new)) }
         ensures never_falls { faults self.old ≤ faults self.new };
 
-    /// Hands on what the sink holds back of the pieces that it took. What it tells stays, also where this fails. `Failed`
-    /// comes only where the count of faults rises in this call or stands at the greatest `u64`.
+    /// Hands on what the sink holds back of the pieces that it took. What it tells stays, also where this fails.
+    /// `Failed` comes only where the count of faults rises in this call or stands at the greatest `u64`.
     fn flush(&mut self) -> Result<(), Failed>
         ensures keeps { Keeps (text self.old) (text self.new) }
         ensures quiet { OnOk result (faults self.new ≡ faults self.old) }

@@ -12,8 +12,8 @@ use std::marker::Model;
 /// How many bytes are gathered, at most: more than one read of common lines gives.
 const ROOM: usize = 32_768;
 
-/// Gathers bytes, and hands them on to its writer where there is no room for more and by `flush`, in one write where the
-/// writer takes them whole. It takes no memory.
+/// Gathers bytes, and hands them on to its writer where there is no room for more and by `flush`, in one write where
+/// the writer takes them whole. It takes no memory.
 #[derive(Drop)]
 pub struct Gatherer<W: Write> {
     output: W,
@@ -63,7 +63,8 @@ impl<W: Write> Write for Gatherer<W> {
     /// gathered before; nothing of the piece is then taken.
     fn write(&mut self, buf: &[u8]) -> io::Result<usize>
         ensures bound { WritesAtMost result buf.now }
-        ensures bytes { WriteAppends (gatherer_contents W.contents self.old) (gatherer_contents W.contents self.new) result buf.now }
+        ensures bytes { WriteAppends (gatherer_contents W.contents self.old) (gatherer_contents W.contents self.new)
+            result buf.now }
         ensures some { IfOk result (λ n. 0 < length buf.now → 0 < n) }
         ensures whole { IfOk result (λ n. length buf.now ≤ ROOM → n ≡ length buf.now) }
     {

@@ -52,8 +52,22 @@ pub fn answer_input<S: Source, K: Sink>(
     sink: &mut K,
 ) -> Status
     ensures { Ran (report command.now) (MayLackMemory command.now) result
-        (record { left = S.left source.old; given = S.given source.old; source_faults = S.faults source.old; text = K.text sink.old; sink_faults = K.faults sink.old })
-        (record { left = S.left source.new; given = S.given source.new; source_faults = S.faults source.new; text = K.text sink.new; sink_faults = K.faults sink.new }) }
+        (record {
+          left = S.left source.old;
+          given = S.given source.old;
+          source_faults = S.faults source.old;
+          text =
+              K.text sink.old;
+          sink_faults = K.faults sink.old;
+        })
+        (record {
+          left = S.left source.new;
+          given = S.given source.new;
+          source_faults = S.faults source.new;
+          text =
+              K.text sink.new;
+          sink_faults = K.faults sink.new;
+        }) }
 {
     let mut line = LineBuffer::new();
     let mut memory = [0; MEMORY];

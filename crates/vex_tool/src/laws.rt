@@ -1,7 +1,8 @@
 //! What holds of all result lines, lines of texts and recodings, each law as the contract of a function that does
 //! nothing, but for calls that it follows from.
 
-ghost use Rattle.vex_tool.specs.Laws.{LineOfError, LineOfNoText, LineOfSpelling, LineOfText, RecodingOfError, RecodingOfSpelling, ResultAssembles};
+ghost use Rattle.vex_tool.specs.Laws.{LineOfError, LineOfNoText, LineOfSpelling, LineOfText, RecodingOfError};
+ghost use Rattle.vex_tool.specs.Laws.{RecodingOfSpelling, ResultAssembles};
 
 use vex_asm::meaning_of_line;
 use vex_decode::spelling_is_read;

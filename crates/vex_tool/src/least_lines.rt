@@ -3,7 +3,8 @@
 ghost use Rattle.std.specs.Prelude.{◌≡◌, ◌≤◌, ◌+◌, ◌++◌, [], codes, flat_map, if◌then◌else◌, length, nat_eq};
 ghost use Rattle.arrayvec.specs.ArrayString.{array_string_len};
 ghost use Rattle.vex_tool.specs.Ends.{Writes};
-ghost use Rattle.vex_tool.specs.LeastLines.{accepted_by, bit_name, cause_name, fault_line, least_lines, need_line, profile_word, profiles_line};
+ghost use Rattle.vex_tool.specs.LeastLines.{accepted_by, bit_name, cause_name, fault_line, least_lines, need_line};
+ghost use Rattle.vex_tool.specs.LeastLines.{profile_word, profiles_line};
 ghost use Rattle.x86_uarch.specs.Profiles.{profile_of};
 
 use crate::ends::{Failed, Sink};
@@ -104,7 +105,8 @@ fn push_dash(text: &mut ArrayString<MAX_PROFILES>)
 
 /// Writes the line of the profiles that have every bit that a run needs, in one write.
 fn write_profiles<K: Sink>(needs: &Needs, sink: &mut K) -> Result<(), Failed>
-    ensures { Writes result (K.text sink.old) (K.text sink.new) (K.faults sink.old) (K.faults sink.new) (profiles_line needs.now.least) }
+    ensures { Writes result (K.text sink.old) (K.text sink.new) (K.faults sink.old) (K.faults sink.new)
+        (profiles_line needs.now.least) }
 {
     let mut text = ArrayString::<MAX_PROFILES>::new();
     text.push_str("profiles");
@@ -119,7 +121,8 @@ fn write_profiles<K: Sink>(needs: &Needs, sink: &mut K) -> Result<(), Failed>
 
 /// Writes a line for each bit that is needed, in one write each.
 fn write_firsts<K: Sink>(firsts: &[First], sink: &mut K) -> Result<(), Failed>
-    ensures { Writes result (K.text sink.old) (K.text sink.new) (K.faults sink.old) (K.faults sink.new) (flat_map need_line firsts.now) }
+    ensures { Writes result (K.text sink.old) (K.text sink.new) (K.faults sink.old) (K.faults sink.new)
+        (flat_map need_line firsts.now) }
 {
     for first in firsts {
         sink.write_all(need_text(first).as_str().as_bytes())?;
@@ -127,10 +130,11 @@ fn write_firsts<K: Sink>(firsts: &[First], sink: &mut K) -> Result<(), Failed>
     Ok(())
 }
 
-/// Writes what the run of instructions that these bytes are needs, a line for each bit and one for the profiles that have
-/// them all, or the line of its fault, in one write each. `Failed` where a write of the sink fails.
+/// Writes what the run of instructions that these bytes are needs, a line for each bit and one for the profiles that
+/// have them all, or the line of its fault, in one write each. `Failed` where a write of the sink fails.
 pub fn write_least<K: Sink>(bytes: &[u8], sink: &mut K) -> Result<(), Failed>
-    ensures { Writes result (K.text sink.old) (K.text sink.new) (K.faults sink.old) (K.faults sink.new) (least_lines bytes.now) }
+    ensures { Writes result (K.text sink.old) (K.text sink.new) (K.faults sink.old) (K.faults sink.new)
+        (least_lines bytes.now) }
 {
     match check(bytes) {
         Ok(needs) => {

@@ -1,9 +1,11 @@
 //! The unfinished line, and how a piece of the input ends lines.
 
-ghost use Rattle.std.specs.Prelude.{◌≡◌, ◌≢◌, ◌≤◌, [], ◌∷◌, length, Some, OnOk, IfSome, IsSomeAnd, IsTrue, ◌↔◌, option_copied};
+ghost use Rattle.std.specs.Prelude.{◌≡◌, ◌≢◌, ◌≤◌, [], ◌∷◌, length, Some, OnOk, IfSome, IsSomeAnd, IsTrue, ◌↔◌};
+ghost use Rattle.std.specs.Prelude.{option_copied};
 ghost use Rattle.vex_tool.specs.Ends.{Answers};
 ghost use Rattle.vex_tool.specs.Report.{report, MayLackMemory};
-ghost use Rattle.vex_tool.specs.LineMachine.{pushed, stepped, line_after, kept_report, ended_at, ended, last, EndedBefore};
+ghost use Rattle.vex_tool.specs.LineMachine.{pushed, stepped, line_after, kept_report, ended_at, ended, last};
+ghost use Rattle.vex_tool.specs.LineMachine.{EndedBefore};
 
 use crate::command::Command;
 use crate::ends::Sink;
@@ -88,7 +90,8 @@ fn answer<K: Sink>(
     sink: &mut K,
 ) -> Result<(), Halt>
     ensures { Answers (λ written. (written ≡ []) × IsSomeAnd line.now (MayLackMemory command.now)) result
-        (K.text sink.old) (K.text sink.new) (K.faults sink.old) (K.faults sink.new) (kept_report (report command.now) line.now) }
+        (K.text sink.old) (K.text sink.new) (K.faults sink.old) (K.faults sink.new)
+        (kept_report (report command.now) line.now) }
 {
     match line.line() {
         Some(bytes) => write_report(alloc, command, bytes, room, sink),
@@ -110,8 +113,10 @@ fn take_byte<K: Sink>(
     sink: &mut K,
 ) -> Result<(), Halt>
     ensures kept { OnOk result (line.new ≡ stepped line.old byte) }
-    ensures written { Answers (λ written. (written ≡ []) × (byte ≡ 10) × IsSomeAnd line.old (MayLackMemory command.now)) result
-        (K.text sink.old) (K.text sink.new) (K.faults sink.old) (K.faults sink.new) (ended_at (report command.now) line.old byte) }
+    ensures written { Answers (λ written. (written ≡ []) × (byte ≡ 10)
+        × IsSomeAnd line.old (MayLackMemory command.now)) result
+        (K.text sink.old) (K.text sink.new) (K.faults sink.old) (K.faults sink.new)
+        (ended_at (report command.now) line.old byte) }
 {
     if byte != LINE_END {
         line.push(byte);
@@ -133,8 +138,10 @@ pub fn feed<K: Sink>(
     sink: &mut K,
 ) -> Result<(), Halt>
     ensures kept { OnOk result (line.new ≡ line_after line.old piece.now) }
-    ensures written { Answers (λ written. EndedBefore (report command.now) (MayLackMemory command.now) line.old piece.now written) result
-        (K.text sink.old) (K.text sink.new) (K.faults sink.old) (K.faults sink.new) (ended (report command.now) line.old piece.now) }
+    ensures written { Answers (λ written. EndedBefore (report command.now) (MayLackMemory command.now) line.old
+        piece.now written) result
+        (K.text sink.old) (K.text sink.new) (K.faults sink.old) (K.faults sink.new)
+        (ended (report command.now) line.old piece.now) }
 {
     for &byte in piece {
         take_byte(alloc, command, line, byte, room, sink)?;
@@ -159,8 +166,10 @@ pub fn finish<K: Sink>(
     room: &mut LineRoom,
     sink: &mut K,
 ) -> Result<(), Halt>
-    ensures { Answers (λ written. (written ≡ []) × (line.now ≢ Some []) × IsSomeAnd line.now (MayLackMemory command.now)) result
-        (K.text sink.old) (K.text sink.new) (K.faults sink.old) (K.faults sink.new) (last (report command.now) line.now) }
+    ensures { Answers (λ written. (written ≡ []) × (line.now ≢ Some [])
+        × IsSomeAnd line.now (MayLackMemory command.now)) result
+        (K.text sink.old) (K.text sink.new) (K.faults sink.old) (K.faults sink.new)
+        (last (report command.now) line.now) }
 {
     if line.is_empty() {
         return hand_on(sink);

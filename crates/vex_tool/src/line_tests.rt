@@ -1,5 +1,5 @@
-//! Lines of code and what `recode` answers, one for each rule of decoding and encoding, texts and what `asm` answers, and
-//! runs of instructions and what `least` and `emulate` answer.
+//! Lines of code and what `recode` answers, one for each rule of decoding and encoding, texts and what `asm` answers,
+//! and runs of instructions and what `least` and `emulate` answer.
 
 use crate::laws::{assembled_lines, result_line_assembles};
 use crate::memory_ends::{MemSink, MemSource};
@@ -9,8 +9,8 @@ use std::alloc::Global;
 use std::process::Abort;
 use x86_settings::InstDecoder;
 
-/// A profile, a line, and its answer: lengths and prefixes, operands in memory, another entry that is shorter, the order
-/// of the steps that refuse, groups, gathers, W and L, bits that play no part, and profiles.
+/// A profile, a line, and its answer: lengths and prefixes, operands in memory, another entry that is shorter, the
+/// order of the steps that refuse, groups, gathers, W and L, bits that play no part, and profiles.
 #[rattlefmt::skip]
 static LINES: [(&str, &[u8], &[u8]); 59] = [
     ("default", b"C5 F8 77", b"3 VZEROUPPER 0 c5f877\n"),
@@ -99,8 +99,8 @@ static TEXTS: [(&str, &[u8], &[u8]); 19] = [
     ("haswell", b"VFMADD213SD x0 x1 x2 0", b"c4e2f1a9c2\n"),
 ];
 
-/// A line, and what `least` answers: the bits that its instructions need, each with the first that does, and the profiles
-/// that have them all; or where it stops.
+/// A line, and what `least` answers: the bits that its instructions need, each with the first that does, and the
+/// profiles that have them all; or where it stops.
 #[rattlefmt::skip]
 static RUNS: [(&[u8], &[u8]); 8] = [
     (b"C5 FA 10 07 C5 FA 58 06 C4 E3 7B F0 C1 05",
@@ -123,8 +123,8 @@ static RUNS: [(&[u8], &[u8]); 8] = [
     (b"c5f", b"error BadHex\n"),
 ];
 
-/// A profile, a line of code, and what `emulate` answers: what it changes of the vectors and of the memory, in this order,
-/// how it ends, and that it starts anew for each line.
+/// A profile, a line of code, and what `emulate` answers: what it changes of the vectors and of the memory, in this
+/// order, how it ends, and that it starts anew for each line.
 #[rattlefmt::skip]
 static MACHINES: [(&str, &[u8], &[u8]); 17] = [
     ("default", b"C5 F1 FC C2",

@@ -48,7 +48,8 @@ pub fn push_hex(text: &mut LineText, bytes: &[u8])
 /// Appends the result line of an instruction and its canonical bytes, its line end included.
 fn push_instruction(text: &mut LineText, instruction: &Instruction, spelling: &Spelling)
     requires { array_string_len text.old + 178 ≤ MAX_TEXT }
-    ensures { text.new.bytes ≡ text.old.bytes ++ instruction_line instruction.now.len instruction.now.meaning spelling.now }
+    ensures { text.new.bytes ≡ text.old.bytes
+        ++ instruction_line instruction.now.len instruction.now.meaning spelling.now }
 {
     append_number(text, usize::from(instruction.len()));
     text.push_str(" ");

@@ -20,7 +20,8 @@
 //! ```
 #![tactic(auto)]
 
-ghost use Rattle.std.specs.Prelude.{◌≡◌, ◌+◌, ◌<◌, ◌≤◌, ◌↔◌, ◌⊎◌, ◌∷◌, ◌++◌, true, length, take, [], Some, IfSome, IsSome, IsSomeAnd, IsNone, IsTrue, IsFalse, IsUtf8};
+ghost use Rattle.std.specs.Prelude.{◌≡◌, ◌+◌, ◌<◌, ◌≤◌, ◌↔◌, ◌⊎◌, ◌∷◌, ◌++◌, true, length, take, [], Some, IfSome};
+ghost use Rattle.std.specs.Prelude.{IsSome, IsSomeAnd, IsNone, IsTrue, IsFalse, IsUtf8};
 ghost use Rattle.std.specs.Bool.{OnTrue, OnFalse};
 ghost use Rattle.std.specs.Io.KnownBytes.{Appends};
 ghost use Rattle.vex_tool.specs.Command.{command, count_made};
@@ -84,10 +85,10 @@ mod words;
 /// `notes P` one for each note and then that of `recode P`, and `asm P` one; `emulate P` one for each vector and each
 /// block of memory that the line's code changes and one for the end; `spellings P` one for each spelling of the meaning
 /// and one for the end; `least` writes one for each bit of settings that the line's instructions need and one for the
-/// profiles. `make N` reads nothing, and writes one line.
-/// The status is `Usage` where the words are no command or one was refused. Else it is that of the first of these events:
-/// a read failed, a write failed, there was no memory for the sweep of a line, the source gave a byte after 2^26 bytes, or
-/// all is written and the input has ended. Only `sweep P` takes memory.
+/// profiles. `make N` reads nothing, and writes one line. The status is `Usage` where the words are no command or one
+/// was refused. Else it is that of the first of these events: a read failed, a write failed, there was no memory for
+/// the sweep of a line, the source gave a byte after 2^26 bytes, or all is written and the input has ended. Only `sweep
+/// P` takes memory.
 pub fn run<S: Source, K: Sink>(alloc: Global, words: &Words, source: &mut S, sink: &mut K) -> Status
     // `Usage` comes exactly where the words are no command or one was refused, and changes nothing.
     ensures usage { (result ≡ Status.Usage) ↔ (IsNone (command words.now.0) ⊎ IsTrue words.now.1) }
@@ -96,9 +97,11 @@ pub fn run<S: Source, K: Sink>(alloc: Global, words: &Words, source: &mut S, sin
     // After `Done` the whole input is read, and its output is written.
     ensures done_read { result ≡ Status.Done → IfSome (command words.now.0) (λ c. IsNone (count_made c)
         → IfSome (S.left source.old) (λ _. S.left source.new ≡ Some [])) }
-    ensures done_written { result ≡ Status.Done → IfSome (command words.now.0) (λ c. IfSome (S.left source.old) (λ input.
+    ensures done_written { result ≡ Status.Done
+        → IfSome (command words.now.0) (λ c. IfSome (S.left source.old) (λ input.
         Appends (K.text sink.old) (K.text sink.new) (output c input))) }
-    ensures done_quiet { result ≡ Status.Done → (S.faults source.new ≡ S.faults source.old) × (K.faults sink.new ≡ K.faults sink.old) }
+    ensures done_quiet { result ≡ Status.Done
+        → (S.faults source.new ≡ S.faults source.old) × (K.faults sink.new ≡ K.faults sink.old) }
 
     // `make` reads nothing, needs no source that tells, and ends with `Done` where the sink doesn't fail.
     ensures made_untouched { IfSome (command words.now.0) (λ c. IsSome (count_made c) → source.new ≡ source.old) }
@@ -127,13 +130,15 @@ pub fn run<S: Source, K: Sink>(alloc: Global, words: &Words, source: &mut S, sin
         WhereTaken (S.left source.old) (S.left source.new) (λ taken.
         Appends (K.text sink.old) (K.text sink.new) (output c (whole (take input_limit taken))))) }
     ensures after_no_memory { result ≡ Status.NoMemory → IfSome (command words.now.0) (λ c.
-        WhereTaken (S.left source.old) (S.left source.new) (λ taken. LackedMemory c taken (K.text sink.old) (K.text sink.new))) }
+        WhereTaken (S.left source.old) (S.left source.new)
+        (λ taken. LackedMemory c taken (K.text sink.old) (K.text sink.new))) }
 
-    // A command over ends that do not fail, with at most 2^26 bytes of input, ends with `Done`, or with `NoMemory` where it
-    // takes memory.
+    // A command over ends that do not fail, with at most 2^26 bytes of input, ends with `Done`, or with `NoMemory`
+    // where it takes memory.
     ensures completes_or_lacks { IsSome (command words.now.0) → IsFalse words.now.1
         → IsQuiet (S.faults source.old) (S.faults source.new) → IsQuiet (K.faults sink.old) (K.faults sink.new)
-        → IsSomeAnd (S.left source.old) (λ input. length input ≤ input_limit) → (result ≡ Status.Done) ⊎ (result ≡ Status.NoMemory) }
+        → IsSomeAnd (S.left source.old) (λ input. length input ≤ input_limit)
+        → (result ≡ Status.Done) ⊎ (result ≡ Status.NoMemory) }
     ensures completes { IsSomeAnd (command words.now.0) (λ c. IsFalse (takes_memory c)) → IsFalse words.now.1
         → IsQuiet (S.faults source.old) (S.faults source.new) → IsQuiet (K.faults sink.old) (K.faults sink.new)
         → IsSomeAnd (S.left source.old) (λ input. length input ≤ input_limit) → result ≡ Status.Done }
@@ -142,7 +147,8 @@ pub fn run<S: Source, K: Sink>(alloc: Global, words: &Words, source: &mut S, sin
         → (RoseByMoreThan input_limit (S.given source.old) (S.given source.new) → ⊥) → result ≡ Status.Done }
     ensures completes_or_lacks_by_number { IsSome (command words.now.0) → IsFalse words.now.1
         → IsQuiet (S.faults source.old) (S.faults source.new) → IsQuiet (K.faults sink.old) (K.faults sink.new)
-        → (RoseByMoreThan input_limit (S.given source.old) (S.given source.new) → ⊥) → (result ≡ Status.Done) ⊎ (result ≡ Status.NoMemory) }
+        → (RoseByMoreThan input_limit (S.given source.old) (S.given source.new) → ⊥)
+        → (result ≡ Status.Done) ⊎ (result ≡ Status.NoMemory) }
 {
     if words.over() {
         return Status::Usage;

@@ -1,9 +1,11 @@
 //! A source and a sink in memory, whose calls fail where they are told to.
 
-ghost use Rattle.std.specs.Prelude.{◌≡◌, ◌<◌, ◌≤◌, ◌↔◌, ◌⊎◌, min, [], length, take, drop, Some, Ok, IfOk, OnOk, OnErr, IsOk, IsErr, Contains};
+ghost use Rattle.std.specs.Prelude.{◌≡◌, ◌<◌, ◌≤◌, ◌↔◌, ◌⊎◌, min, [], length, take, drop, Some, Ok, IfOk, OnOk, OnErr};
+ghost use Rattle.std.specs.Prelude.{IsOk, IsErr, Contains};
 ghost use Rattle.std.specs.Io.KnownBytes.{Appends, Consumes, Keeps, IsAtEnd};
 ghost use Rattle.vex_tool.specs.Ends.{RoseOrIsLast, AppendsFront, counted};
-ghost use Rattle.vex_tool.specs.MemoryEnds.{read_len, after_read, after_read_fault, with_written, after_write, after_write_fault};
+ghost use Rattle.vex_tool.specs.MemoryEnds.{read_len, after_read, after_read_fault, with_written, after_write};
+ghost use Rattle.vex_tool.specs.MemoryEnds.{after_write_fault};
 
 use crate::ends::{Failed, Sink, Source};
 use std::marker::Model;
@@ -25,7 +27,15 @@ impl<'a> Model for MemSource<'a> {
 
     ghost Value = { MemSourceView };
 
-    ghost view = { λ s. record { left = s.rest.now; step = s.step; failing = s.failing.now; call = s.call; given = s.given; faults = s.faults } };
+    ghost view = { λ s. record {
+      left = s.rest.now;
+      step = s.step;
+      failing = s.failing.now;
+      call = s.call;
+      given =
+          s.given;
+      faults = s.faults;
+    } };
 
     ghost invariant = { λ s. 1 ≤ s.step };
 }
@@ -35,7 +45,15 @@ impl<'a> MemSource<'a> {
     /// numbers in `failing`, counted from 0, fail.
     pub fn new(bytes: &'a [u8], step: usize, failing: &'a [u64]) -> MemSource<'a>
         requires { 1 ≤ step }
-        ensures { result ≡ record { left = bytes.now; step = step; failing = failing.now; call = 0; given = 0; faults = 0 } }
+        ensures { result ≡ record {
+          left = bytes.now;
+          step = step;
+          failing = failing.now;
+          call = 0;
+          given = 0;
+          faults =
+              0;
+        } }
     {
         MemSource {
             rest: bytes,
@@ -109,7 +127,14 @@ impl<'a> Model for MemSink<'a> {
 
     ghost Value = { MemSinkView };
 
-    ghost view = { λ s. record { written = take s.len s.room.now; room = length s.room.now - s.len; failing = s.failing.now; call = s.call; faults = s.faults } };
+    ghost view = { λ s. record {
+      written = take s.len s.room.now;
+      room = length s.room.now - s.len;
+      failing =
+          s.failing.now;
+      call = s.call;
+      faults = s.faults;
+    } };
 
     ghost invariant = { λ s. s.len ≤ length s.room.now };
 }

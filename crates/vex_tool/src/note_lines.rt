@@ -28,7 +28,8 @@ fn notes_of(settings: &InstDecoder, bytes: &[u8]) -> ListSink<FieldDescription>
 
 // Writes a line for each note, in one write each.
 fn write_note_lines<K: Sink>(list: &ListSink<FieldDescription>, sink: &mut K) -> Result<(), Failed>
-    ensures { Writes result (K.text sink.old) (K.text sink.new) (K.faults sink.old) (K.faults sink.new) (flat_map note_line list.now.kept) }
+    ensures { Writes result (K.text sink.old) (K.text sink.new) (K.faults sink.old) (K.faults sink.new)
+        (flat_map note_line list.now.kept) }
 {
     for i in 0..list.len() {
         if let Some(note) = list.get(i) {
@@ -38,14 +39,15 @@ fn write_note_lines<K: Sink>(list: &ListSink<FieldDescription>, sink: &mut K) ->
     Ok(())
 }
 
-/// Decodes these bytes under settings, and writes a line for each note and then the result line, in one write each. `Failed` where
-/// a write of the sink fails.
+/// Decodes these bytes under settings, and writes a line for each note and then the result line, in one write each.
+/// `Failed` where a write of the sink fails.
 pub fn write_notes<K: Sink>(
     settings: &InstDecoder,
     bytes: &[u8],
     sink: &mut K,
 ) -> Result<(), Failed>
-    ensures { Writes result (K.text sink.old) (K.text sink.new) (K.faults sink.old) (K.faults sink.new) (note_lines settings.now bytes.now) }
+    ensures { Writes result (K.text sink.old) (K.text sink.new) (K.faults sink.old) (K.faults sink.new)
+        (note_lines settings.now bytes.now) }
 {
     write_note_lines(&notes_of(settings, bytes), sink)?;
     write_result_line(settings, bytes, sink)

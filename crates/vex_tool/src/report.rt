@@ -4,7 +4,8 @@ ghost use Rattle.std.specs.Prelude.{◌≡◌, ◌≤◌, ◌/◌, [], length, t
 ghost use Rattle.hex.specs.Hex.{decode_of};
 ghost use Rattle.vex_tool.specs.Ends.{Answers, Writes};
 ghost use Rattle.vex_tool.specs.ErrorLine.{error_line};
-ghost use Rattle.vex_tool.specs.Report.{report, code, code_report, taken, digits, or_bad_hex, is_blank, line_error_name, takes_memory, MayLackMemory};
+ghost use Rattle.vex_tool.specs.Report.{report, code, code_report, taken, digits, or_bad_hex, is_blank};
+ghost use Rattle.vex_tool.specs.Report.{line_error_name, takes_memory, MayLackMemory};
 
 use crate::asm_line::write_asm_line;
 use crate::command::Command;
@@ -103,7 +104,8 @@ impl<'a> LineRoom<'a> {
     fn decode(&mut self, line: &[u8]) -> Result<usize, LineError>
         requires { length line.now ≤ MAX_LINE }
         ensures within { IfOk result (λ n. n ≤ MAX_CODE) }
-        ensures decoded { MatchResult result (λ n. code line.now ≡ Ok (take n self.new.bytes)) (λ e. code line.now ≡ Err e) }
+        ensures decoded { MatchResult result (λ n. code line.now ≡ Ok (take n self.new.bytes))
+            (λ e. code line.now ≡ Err e) }
     {
         keep_digits(line, &mut self.digits);
         decode_digits(self.digits.as_slice(), &mut self.bytes)
@@ -112,7 +114,8 @@ impl<'a> LineRoom<'a> {
 
 /// Writes the line that names the error, in one write. `Failed` where the sink's write fails.
 pub fn write_error<K: Sink>(error: LineError, sink: &mut K) -> Result<(), Failed>
-    ensures { Writes result (K.text sink.old) (K.text sink.new) (K.faults sink.old) (K.faults sink.new) (error_line (line_error_name error)) }
+    ensures { Writes result (K.text sink.old) (K.text sink.new) (K.faults sink.old) (K.faults sink.new)
+        (error_line (line_error_name error)) }
 {
     sink.write_all(error_text(error.name()).as_str().as_bytes())
 }
@@ -126,7 +129,8 @@ fn write_code_report<K: Sink>(
     sink: &mut K,
 ) -> Result<(), Halt>
     ensures { Answers (λ written. (written ≡ []) × IsTrue (takes_memory command.now)) result
-        (K.text sink.old) (K.text sink.new) (K.faults sink.old) (K.faults sink.new) (code_report command.now (Ok bytes.now)) }
+        (K.text sink.old) (K.text sink.new) (K.faults sink.old) (K.faults sink.new)
+        (code_report command.now (Ok bytes.now)) }
 {
     match command {
         Command::Recode(settings) => {

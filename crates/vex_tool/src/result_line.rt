@@ -28,7 +28,8 @@ pub fn write_result_line<K: Sink>(
     bytes: &[u8],
     sink: &mut K,
 ) -> Result<(), Failed>
-    ensures { Writes result (K.text sink.old) (K.text sink.new) (K.faults sink.old) (K.faults sink.new) (result_line settings.now bytes.now) }
+    ensures { Writes result (K.text sink.old) (K.text sink.new) (K.faults sink.old) (K.faults sink.new)
+        (result_line settings.now bytes.now) }
 {
     sink.write_all(result_text(settings, bytes).as_str().as_bytes())
 }

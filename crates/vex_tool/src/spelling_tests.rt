@@ -5,8 +5,8 @@ use crate::memory_ends::{MemSink, MemSource};
 use crate::run;
 use crate::words::Words;
 
-/// A profile, a line of code, and what `spellings` answers: all bits that play no part, the widths of a displacement, the
-/// low half of the byte that names a register, bytes after the instruction, and what is refused.
+/// A profile, a line of code, and what `spellings` answers: all bits that play no part, the widths of a displacement,
+/// the low half of the byte that names a register, bytes after the instruction, and what is refused.
 #[rattlefmt::skip]
 static SPELLINGS: [(&str, &[u8], &[u8]); 8] = [
     // 2 R, 2 X, 2 B and 2 W after C4, and 2 R after C5.

@@ -115,7 +115,8 @@ impl<W: Write> Sink for StdSink<W> {
 
         // What it hands on to its writer, where the writer's bytes are known.
         ensures bytes { OnOk result (Appends (W.contents self.old.output) (W.contents self.new.output) piece.now) }
-        ensures bytes_front { OnErr result (AppendsFront (W.contents self.old.output) (W.contents self.new.output) piece.now) }
+        ensures bytes_front { OnErr result (AppendsFront (W.contents self.old.output) (W.contents self.new.output)
+            piece.now) }
         ensures fault { OnErr result (self.new.faults ≡ counted self.old.faults 1) }
     {
         let mut rest = piece;

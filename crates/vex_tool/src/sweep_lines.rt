@@ -14,7 +14,8 @@ use x86_settings::InstDecoder;
 
 // Writes a line for each item, in one write each.
 fn write_items<K: Sink>(items: &Items<'_>, sink: &mut K) -> Result<(), Failed>
-    ensures { Writes result (K.text sink.old) (K.text sink.new) (K.faults sink.old) (K.faults sink.new) (flat_map item_line items.now) }
+    ensures { Writes result (K.text sink.old) (K.text sink.new) (K.faults sink.old) (K.faults sink.new)
+        (flat_map item_line items.now) }
 {
     let list = items.as_slice();
     for item in list {
@@ -23,15 +24,16 @@ fn write_items<K: Sink>(items: &Items<'_>, sink: &mut K) -> Result<(), Failed>
     Ok(())
 }
 
-/// Sweeps these bytes under settings, and writes a line for each instruction and one for the end, in one write each. Nothing is
-/// written where there is no memory.
+/// Sweeps these bytes under settings, and writes a line for each instruction and one for the end, in one write each.
+/// Nothing is written where there is no memory.
 pub fn write_sweep<K: Sink>(
     alloc: Global,
     settings: &InstDecoder,
     bytes: &[u8],
     sink: &mut K,
 ) -> Result<(), Halt>
-    ensures { Answers (λ written. written ≡ []) result (K.text sink.old) (K.text sink.new) (K.faults sink.old) (K.faults sink.new)
+    ensures { Answers (λ written. written ≡ []) result (K.text sink.old) (K.text sink.new) (K.faults sink.old)
+        (K.faults sink.new)
         (sweep_lines (swept settings.now bytes.now)) }
 {
     let swept = match sweep(alloc, settings, bytes) {

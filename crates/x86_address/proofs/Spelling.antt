@@ -12,7 +12,8 @@ use Rattle.x86_address.specs.Reading.Lemmas.{same_read}
 use Rattle.x86_address.specs.Reading.Places.{take_place-again, take_place-fails, same_parts}
 use Rattle.x86_address.specs.Place.Lemmas.{vector_in_memory, plain_without, has_modrm, place_bytes_split, rm_of_below}
 use Rattle.x86_address.specs.Place.Lemmas.{place_bytes_none}
-use Rattle.x86_address.specs.Shortest.Lemmas.{is_place-shortest, kind_of-shortest, kind_of_target-target, names-shortest}
+use Rattle.x86_address.specs.Shortest.Lemmas.{is_place-shortest, kind_of-shortest, kind_of_target-target}
+use Rattle.x86_address.specs.Shortest.Lemmas.{names-shortest}
 use Rattle.x86_address.specs.Shortest.Lemmas.{sib-shortest, IsSpellable-target, shortest-least, x_fixed_or_ignored}
 use Rattle.x86_address.specs.Shortest.Lemmas.{b_fixed_or_ignored, x_of-target, b_of-target}
 

@@ -118,8 +118,7 @@ kind_of_target (Number n) = InRegister
 kind_of_target (At a) = InMemory
 
 -- the index of exponent, index field and X: the number 4 means no index, and the scale then plays no part, but where
--- the
--- index is a vector register (Intel SDM volume 2, sections 2.1.5 and 2.3.12)
+-- the index is a vector register (Intel SDM volume 2, sections 2.1.5 and 2.3.12)
 abbrev pub index_of : Bool → ℕ → ℕ → Bool → Option (ℕ × ℕ)
 index_of vector k i x = if not vector && i + 8 * bit x == 4 then None else Some (i + 8 * bit x, 2 ^ k)
 

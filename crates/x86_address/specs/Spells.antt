@@ -40,8 +40,7 @@ abbrev pub IsPower : ℕ → Type 0
 IsPower n = (exponent : ℕ) × (exponent < 4) × (n ≡ 2 ^ exponent)
 
 -- there is no index, but where a vector register has to be; or there is one of bank Q with a number and a scale that
--- SIB
--- can say
+-- SIB can say
 abbrev pub IndexFits : Bool → Option Index → Type 0
 IndexFits vector None = vector ≡ false
 IndexFits vector (Some index) = (index.reg.bank ≡ Q) × MayBeIndex vector index.reg.num × IsScale index.scale

@@ -1,5 +1,6 @@
 -- Lemmas that no contract cites: what `recode` answers as `first_of_bytes`, and a sweep instruction by instruction.
-use Rattle.std.proofs.Common.{◌≡◌, ℕ, zero, suc, ◌+◌, ◌-◌, ◌<◌, ◌≤◌, Bool, List, [], ◌∷◌, ◌++◌, length, take, drop, get_or, Some, None, Ok, Err, sym, ap, ◌∙◌, arith, add-zero, take-append-drop}
+use Rattle.std.proofs.Common.{◌≡◌, ℕ, zero, suc, ◌+◌, ◌-◌, ◌<◌, ◌≤◌, Bool, List, [], ◌∷◌, ◌++◌, length, take, drop}
+use Rattle.std.proofs.Common.{get_or, Some, None, Ok, Err, sym, ap, ◌∙◌, arith, add-zero, take-append-drop}
 use Rattle.std.proofs.lemmas.List.{length-drop}
 use Rattle.x86_operand.specs.declared.error.DecodeError.{DecodeError}
 use Rattle.x86_operand.specs.Meaning.{Decoded, Meaning}
@@ -38,7 +39,8 @@ first-spelled settings bytes decoded law is begun within spells =
     ∙ ap (λ (m : Meaning). Ok (record { meaning = m; len = n })) (sym spells.by.means)
 
 -- bytes that an error blocks
-pub first-blocked : (settings : List Bool) (bytes : List ℕ) (error : DecodeError) (n : ℕ) → blocked settings bytes ≡ Some (error, n)
+pub first-blocked : (settings : List Bool) (bytes : List ℕ) (error : DecodeError) (n : ℕ)
+    → blocked settings bytes ≡ Some (error, n)
     → first_of_bytes settings bytes ≡ Err error
 unfolding first_of_bytes
 first-blocked settings bytes error n is = ap (λ b. decoded_unless b bytes) is
@@ -56,9 +58,11 @@ from-skip settings (suc k) place (b ∷ bs) within =
     from-skip settings k (place + 1) bs (omega arith) ∙ ap (λ p. swept_from settings 0 p (drop k bs)) at
 
 -- an instruction, and the sweep of what follows it
-pub from-step : (settings : List Bool) (place : ℕ) (bytes : List ℕ) (decoded : Decoded) → first_of_bytes settings bytes ≡ Ok decoded
+pub from-step : (settings : List Bool) (place : ℕ) (bytes : List ℕ) (decoded : Decoded)
+    → first_of_bytes settings bytes ≡ Ok decoded
     → 1 ≤ decoded.len → decoded.len ≤ length bytes
-    → swept_from settings 0 place bytes ≡ onto (item_at place bytes decoded) (swept_from settings 0 (place + decoded.len) (drop decoded.len bytes))
+    → swept_from settings 0 place bytes ≡ onto (item_at place bytes decoded)
+    (swept_from settings 0 (place + decoded.len) (drop decoded.len bytes))
 unfolding swept_from
 from-step settings place [] decoded first some within = absurd (omega arith)
 from-step settings place (b ∷ bs) decoded first some within =
@@ -72,8 +76,10 @@ from-step settings place (b ∷ bs) decoded first some within =
     ∙ ap (λ k. swept_from settings 0 (place + n) (drop k (b ∷ bs))) (sym more))
 
 -- an error
-pub from-stop : (settings : List Bool) (place : ℕ) (bytes : List ℕ) (error : DecodeError) → first_of_bytes settings bytes ≡ Err error → 0 < length bytes
+pub from-stop : (settings : List Bool) (place : ℕ) (bytes : List ℕ) (error : DecodeError)
+    → first_of_bytes settings bytes ≡ Err error → 0 < length bytes
     → swept_from settings 0 place bytes ≡ record { items = []; end = Stopped place error }
 unfolding swept_from
 from-stop settings place [] error first some = absurd (omega arith)
-from-stop settings place (b ∷ bs) error first some = ap (swept_by place (b ∷ bs) (λ decoded. swept_from settings (decoded.len - 1) (place + 1) bs)) first
+from-stop settings place (b ∷ bs) error first some =
+    ap (swept_by place (b ∷ bs) (λ decoded. swept_from settings (decoded.len - 1) (place + 1) bs)) first

@@ -1,7 +1,8 @@
 -- Lemmas on the kinds that a form may have, which no contract cites.
 use Rattle.std.specs.Prelude.{◌≡◌, refl, Bool, true, false, not, ◌||◌, List, [], ◌∷◌, if◌then◌else◌}
 use Rattle.std.proofs.Common.{inl, inr, sym, subst}
-use Rattle.x86_operand.specs.Kind.{Kind, WithoutModRM, InRegister, InMemory, VectorIndexed, is_vector, plain_kind, memory_kind}
+use Rattle.x86_operand.specs.Kind.{Kind, WithoutModRM, InRegister, InMemory, VectorIndexed, is_vector, plain_kind}
+use Rattle.x86_operand.specs.Kind.{memory_kind}
 use Rattle.vex_rows.specs.Row.{Among, is_register, is_memory, is_memory_of}
 
 -- an address is in memory, whatever its index is
@@ -42,26 +43,32 @@ vector_kind VectorIndexed h = refl
 abbrev pub kinds : Bool → Bool → List Kind
 kinds vector modrm = if modrm then InRegister ∷ memory_kind vector ∷ [] else WithoutModRM ∷ []
 
-memory_again : (vector : Bool) → (if is_memory (memory_kind vector) then memory_kind vector else InRegister) ≡ memory_kind vector
+memory_again : (vector : Bool) → (if is_memory (memory_kind vector) then memory_kind vector else InRegister)
+    ≡ memory_kind vector
 memory_again true = refl
 memory_again false = refl
 
 -- a kind says whether it is in memory, where the form has it
-pub kind-again : (vector modrm : Bool) (kind : Kind) → Among kind (kinds vector modrm) → (if modrm then (if is_memory kind then memory_kind vector else InRegister) else WithoutModRM) ≡ kind
-kind-again vector true kind (inl e) = subst (λ k. (if is_memory k then memory_kind vector else InRegister) ≡ k) (sym e) refl
-kind-again vector true kind (inr (inl e)) = subst (λ k. (if is_memory k then memory_kind vector else InRegister) ≡ k) (sym e) (memory_again vector)
+pub kind-again : (vector modrm : Bool) (kind : Kind) → Among kind (kinds vector modrm)
+    → (if modrm then (if is_memory kind then memory_kind vector else InRegister) else WithoutModRM) ≡ kind
+kind-again vector true kind (inl e) = subst (λ k. (if is_memory k then memory_kind vector else InRegister) ≡ k) (sym e)
+    refl
+kind-again vector true kind (inr (inl e)) =
+    subst (λ k. (if is_memory k then memory_kind vector else InRegister) ≡ k) (sym e) (memory_again vector)
 kind-again vector true kind (inr (inr m)) = absurd m
 kind-again vector false kind (inl e) = sym e
 kind-again vector false kind (inr m) = absurd m
 
 -- and can be there
-pub may_be-again : (vector modrm : Bool) (kind : Kind) → Among kind (kinds vector modrm) → (modrm || not (is_memory kind)) ≡ true
+pub may_be-again : (vector modrm : Bool) (kind : Kind) → Among kind (kinds vector modrm)
+    → (modrm || not (is_memory kind)) ≡ true
 may_be-again vector true kind m = refl
 may_be-again vector false kind (inl e) = subst (λ k. not (is_memory k) ≡ true) (sym e) refl
 may_be-again vector false kind (inr m) = absurd m
 
 -- a kind that can be is one of the form's
-pub kind-among : (vector modrm memory : Bool) → (modrm || not memory) ≡ true → Among (if modrm then (if memory then memory_kind vector else InRegister) else WithoutModRM) (kinds vector modrm)
+pub kind-among : (vector modrm memory : Bool) → (modrm || not memory) ≡ true
+    → Among (if modrm then (if memory then memory_kind vector else InRegister) else WithoutModRM) (kinds vector modrm)
 kind-among vector true true h = inr (inl refl)
 kind-among vector true false h = inl refl
 kind-among vector false memory h = inl refl

@@ -31,7 +31,9 @@ bit_again true = refl
 bit_again false = refl
 
 -- an entry that has the key of a prefix and an opcode byte is one that the prefix chooses
-pub has_prefix : (entry : Entry) (prefix : Prefix) (byte : ℕ) → has_key entry (record { map = prefix.map; pp = prefix.pp; byte = byte; w = prefix.w; l = prefix.l }) ≡ true → HasPrefix entry (fields_of prefix)
+pub has_prefix : (entry : Entry) (prefix : Prefix) (byte : ℕ)
+    → has_key entry (record { map = prefix.map; pp = prefix.pp; byte = byte; w = prefix.w; l = prefix.l }) ≡ true
+    → HasPrefix entry (fields_of prefix)
 has_prefix entry prefix byte h =
     let key = from-has_key entry _ h in
     record { map = same_map _ _ key.map; pp = same_pp _ _ key.pp; w = key.w; l = rw (bit_again prefix.l) key.l }

@@ -14,7 +14,8 @@ use Rattle.vex_forms.specs.Slots.{slots, slots_of, names_g, names_v, demands_v, 
 use Rattle.vex_forms.specs.WellFormed.{is_sound, is_distinct, is_free, immediates, has_few}
 
 -- by the kind of a row, on which the slots of some forms depend
-by_kind : (test : Kind → Bool) → test WithoutModRM ≡ true → test InRegister ≡ true → test InMemory ≡ true → test VectorIndexed ≡ true → (kind : Kind) → test kind ≡ true
+by_kind : (test : Kind → Bool) → test WithoutModRM ≡ true → test InRegister ≡ true → test InMemory ≡ true
+    → test VectorIndexed ≡ true → (kind : Kind) → test kind ≡ true
 by_kind test a b c d WithoutModRM = a
 by_kind test a b c d InRegister = b
 by_kind test a b c d InMemory = c
@@ -41,31 +42,38 @@ sound_vector Nothing row = refl
 sound_vector _ row = refl
 
 pub sound : (form : Form) (row : Row) → is_sound form row ≡ true
-sound form row = by_kind (λ kind. is_sound form (row_at row.entry row.w row.l kind row.group)) (sound_without form row) (sound_register form row) (sound_memory form row) (sound_vector form row) row.kind
+sound form row = by_kind (λ kind. is_sound form (row_at row.entry row.w row.l kind row.group)) (sound_without form row)
+    (sound_register form row) (sound_memory form row) (sound_vector form row) row.kind
 
 -- no form names a field twice
-distinct_without : (form : Form) (row : Row) → is_distinct (slots_of form (row_at row.entry row.w row.l WithoutModRM row.group)) ≡ true
+distinct_without : (form : Form) (row : Row)
+    → is_distinct (slots_of form (row_at row.entry row.w row.l WithoutModRM row.group)) ≡ true
 unfolding form_row
 distinct_without Nothing row = refl
 distinct_without _ row = refl
 
-distinct_register : (form : Form) (row : Row) → is_distinct (slots_of form (row_at row.entry row.w row.l InRegister row.group)) ≡ true
+distinct_register : (form : Form) (row : Row)
+    → is_distinct (slots_of form (row_at row.entry row.w row.l InRegister row.group)) ≡ true
 unfolding form_row
 distinct_register Nothing row = refl
 distinct_register _ row = refl
 
-distinct_memory : (form : Form) (row : Row) → is_distinct (slots_of form (row_at row.entry row.w row.l InMemory row.group)) ≡ true
+distinct_memory : (form : Form) (row : Row)
+    → is_distinct (slots_of form (row_at row.entry row.w row.l InMemory row.group)) ≡ true
 unfolding form_row
 distinct_memory Nothing row = refl
 distinct_memory _ row = refl
 
-distinct_vector : (form : Form) (row : Row) → is_distinct (slots_of form (row_at row.entry row.w row.l VectorIndexed row.group)) ≡ true
+distinct_vector : (form : Form) (row : Row)
+    → is_distinct (slots_of form (row_at row.entry row.w row.l VectorIndexed row.group)) ≡ true
 unfolding form_row
 distinct_vector Nothing row = refl
 distinct_vector _ row = refl
 
 pub distinct : (form : Form) (row : Row) → is_distinct (slots_of form row) ≡ true
-distinct form row = by_kind (λ kind. is_distinct (slots_of form (row_at row.entry row.w row.l kind row.group))) (distinct_without form row) (distinct_register form row) (distinct_memory form row) (distinct_vector form row) row.kind
+distinct form row = by_kind (λ kind. is_distinct (slots_of form (row_at row.entry row.w row.l kind row.group)))
+    (distinct_without form row) (distinct_register form row) (distinct_memory form row) (distinct_vector form row)
+    row.kind
 
 -- no form names a field that isn't free
 free_without : (form : Form) (row : Row) → is_free form (row_at row.entry row.w row.l WithoutModRM row.group) ≡ true
@@ -89,7 +97,8 @@ free_vector Nothing row = refl
 free_vector _ row = refl
 
 pub free : (form : Form) (row : Row) → is_free form row ≡ true
-free form row = by_kind (λ kind. is_free form (row_at row.entry row.w row.l kind row.group)) (free_without form row) (free_register form row) (free_memory form row) (free_vector form row) row.kind
+free form row = by_kind (λ kind. is_free form (row_at row.entry row.w row.l kind row.group)) (free_without form row)
+    (free_register form row) (free_memory form row) (free_vector form row) row.kind
 
 -- no form has more than four slots
 few_without : (form : Form) (row : Row) → has_few form (row_at row.entry row.w row.l WithoutModRM row.group) ≡ true
@@ -113,7 +122,8 @@ few_vector Nothing row = refl
 few_vector _ row = refl
 
 pub few : (form : Form) (row : Row) → has_few form row ≡ true
-few form row = by_kind (λ kind. has_few form (row_at row.entry row.w row.l kind row.group)) (few_without form row) (few_register form row) (few_memory form row) (few_vector form row) row.kind
+few form row = by_kind (λ kind. has_few form (row_at row.entry row.w row.l kind row.group)) (few_without form row)
+    (few_register form row) (few_memory form row) (few_vector form row) row.kind
 
 -- every row has at most four slots
 pub few_slots : (row : Row) → length (slots row) ≤ 4
@@ -125,28 +135,36 @@ abbrev pub named : Row → Bool
 named row = list_any names_v (slots_of row.entry.form row)
 
 abbrev pub demanded : Row → Bool
-demanded row = list_any (demands_v row.kind) (steps row.entry.form).before_modrm || list_any (demands_v row.kind) (steps row.entry.form).after_address
+demanded row = list_any (demands_v row.kind) (steps row.entry.form).before_modrm || list_any (demands_v row.kind)
+    (steps row.entry.form).after_address
 
 -- the parts of the test of a row
 pub record Sound (row : Row) : Type 0 where
-  pub immediates : nat_le (immediates (slots_of row.entry.form row)) (if (steps row.entry.form).imm then 1 else 0) ≡ true
+  pub immediates : nat_le (immediates (slots_of row.entry.form row)) (if (steps row.entry.form).imm then 1 else 0)
+      ≡ true
   pub v : not (named row && demanded row) ≡ true
   pub alone : ((steps row.entry.form).modrm || not (list_any names_g (slots_of row.entry.form row))) ≡ true
 
 pub sound_row : (row : Row) → Sound row
 sound_row row =
-    let all = both-parts (nat_le (immediates (slots_of row.entry.form row)) (if (steps row.entry.form).imm then 1 else 0) && not (named row && demanded row)) ((steps row.entry.form).modrm || not (list_any names_g (slots_of row.entry.form row))) (sound row.entry.form row) in
-    let two = both-parts (nat_le (immediates (slots_of row.entry.form row)) (if (steps row.entry.form).imm then 1 else 0)) (not (named row && demanded row)) all.0 in
+    let all = both-parts (nat_le (immediates (slots_of row.entry.form row))
+    (if (steps row.entry.form).imm then 1 else 0) && not (named row && demanded row))
+    ((steps row.entry.form).modrm || not (list_any names_g (slots_of row.entry.form row)))
+    (sound row.entry.form row) in
+    let two = both-parts (nat_le (immediates (slots_of row.entry.form row))
+    (if (steps row.entry.form).imm then 1 else 0)) (not (named row && demanded row)) all.0 in
     record { immediates = two.0; v = two.1; alone = all.1 }
 
 -- what a row asks of vvvv, by what its slots name and its steps demand
-rule_demanded : (named demanded : Bool) → not (named && demanded) ≡ true → demanded ≡ true → (if named then Named else if demanded then Zero else Free) ≡ Zero
+rule_demanded : (named demanded : Bool) → not (named && demanded) ≡ true → demanded ≡ true
+    → (if named then Named else if demanded then Zero else Free) ≡ Zero
 rule_demanded true true h e = cc
 rule_demanded true false h e = cc
 rule_demanded false true h e = refl
 rule_demanded false false h e = cc
 
-rule_zero : (named demanded : Bool) → (if named then Named else if demanded then Zero else Free) ≡ Zero → (named ≡ false) × (demanded ≡ true)
+rule_zero : (named demanded : Bool) → (if named then Named else if demanded then Zero else Free) ≡ Zero
+    → (named ≡ false) × (demanded ≡ true)
 rule_zero true demanded e = cc
 rule_zero false true e = (refl, refl)
 rule_zero false false e = cc

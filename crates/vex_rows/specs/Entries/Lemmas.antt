@@ -7,7 +7,8 @@ use Rattle.vex_rows.specs.declared.entry.Entry.{Entry}
 use Rattle.vex_rows.specs.Entries.{rows_of, has_opcode, entries_with}
 use Rattle.vex_rows.specs.Row.{Row, Among, IsRow, choices, exists, opcode_of, rows}
 use Rattle.vex_rows.specs.Table.{table}
-use Rattle.vex_rows.specs.Row.Lists.{among-filter, from-filter, among-flat_map, from-flat_map, filter-flat_map, any-among, from-any, none-any}
+use Rattle.vex_rows.specs.Row.Lists.{among-filter, from-filter, among-flat_map, from-flat_map, filter-flat_map}
+use Rattle.vex_rows.specs.Row.Lists.{any-among, from-any, none-any}
 use Rattle.vex_rows.specs.Row.Lemmas.{choices-entry}
 
 -- all rows are those of the entries, one entry after another
@@ -25,13 +26,17 @@ row-rows_of row m =
     (subst (λ entry. Among entry table) (sym same) from.1, subst (λ entry. Among row (rows_of entry)) (sym same) from.2)
 
 -- each of an entry's rows is a row, and is that entry's
-pub rows_of-row : (entry : Entry) (row : Row) → Among entry table → Among row (rows_of entry) → IsRow row × (row.entry ≡ entry)
+pub rows_of-row : (entry : Entry) (row : Row) → Among entry table → Among row (rows_of entry)
+    → IsRow row × (row.entry ≡ entry)
 unfolding IsRow rows_of
-rows_of-row entry row m n =
-    (subst (Among row) (sym rows_by_entry) (among-flat_map rows_of entry row table m n), choices-entry entry row (from-filter exists row (choices entry) n).1)
+rows_of-row entry row m n = (
+  subst (Among row) (sym rows_by_entry) (among-flat_map rows_of entry row table m n),
+  choices-entry entry row (from-filter exists row (choices entry) n).1,
+)
 
 -- where no row of an entry gives an opcode, each of them gives another
-pub no_row : (entry : Entry) (opcode : Opcode) → has_opcode entry opcode ≡ false → (row : Row) → Among row (rows_of entry) → same_opcode (opcode_of row) opcode ≡ false
+pub no_row : (entry : Entry) (opcode : Opcode) → has_opcode entry opcode ≡ false → (row : Row)
+    → Among row (rows_of entry) → same_opcode (opcode_of row) opcode ≡ false
 unfolding has_opcode
 no_row entry opcode none row m = none-any (λ row. same_opcode (opcode_of row) opcode) row (rows_of entry) none m
 
@@ -46,11 +51,13 @@ unfolding entries_with has_opcode same_opcode
 row_entry row m =
     let at = row-rows_of row m in
     let same : (opcode_number (opcode_of row) == opcode_number (opcode_of row)) ≡ true = eq-eqb _ _ refl in
-    let has = any-among (λ other. opcode_number (opcode_of other) == opcode_number (opcode_of row)) row (rows_of row.entry) same at.1 in
+    let has = any-among (λ other. opcode_number (opcode_of other) == opcode_number (opcode_of row)) row
+    (rows_of row.entry) same at.1 in
     among-filter (λ entry. has_opcode entry (opcode_of row)) row.entry table has at.0
 
 -- an entry of an opcode has a row that gives it
-pub entry_row : (entry : Entry) (opcode : Opcode) → Among entry (entries_with opcode) → (row : Row) × IsRow row × (row.entry ≡ entry) × (same_opcode (opcode_of row) opcode ≡ true)
+pub entry_row : (entry : Entry) (opcode : Opcode) → Among entry (entries_with opcode)
+    → (row : Row) × IsRow row × (row.entry ≡ entry) × (same_opcode (opcode_of row) opcode ≡ true)
 unfolding entries_with has_opcode
 entry_row entry opcode m =
     let kept = from-filter (λ entry. has_opcode entry opcode) entry table m in

@@ -16,4 +16,5 @@ small_groups Nothing l = refl
 small_groups _ l = refl
 
 pub small_group : (form : Form) (l : ℕ) (group : ℕ × Opcode) → Among group (groups form l) → group.0 < 8
-small_group form l group m = ltb-true group.0 8 (from-list_all (λ g. nat_lt g.0 8) group (groups form l) (small_groups form l) m)
+small_group form l group m = ltb-true group.0 8
+    (from-list_all (λ g. nat_lt g.0 8) group (groups form l) (small_groups form l) m)

@@ -7,8 +7,10 @@ use Rattle.vex_rows.specs.Rules.{allows}
 use Rattle.vex_rows.specs.declared.steps.Check.{Check}
 use Rattle.vex_rows.specs.Steps.{steps}
 use Rattle.vex_rows.specs.Table.{table}
-use Rattle.vex_rows.specs.Row.{Row, Among, rows, row_at, choices, choices_of_kind, choices_of_l, choices_of_w, exists, IsRow, kinds_of, group_choices, permits_choice}
-use Rattle.vex_rows.specs.Row.Lists.{among-map, from-map, among-flat_map, from-flat_map, among-filter, from-filter, both-parts, parts-both}
+use Rattle.vex_rows.specs.Row.{Row, Among, rows, row_at, choices, choices_of_kind, choices_of_l, choices_of_w, exists}
+use Rattle.vex_rows.specs.Row.{IsRow, kinds_of, group_choices, permits_choice}
+use Rattle.vex_rows.specs.Row.Lists.{among-map, from-map, among-flat_map, from-flat_map, among-filter, from-filter}
+use Rattle.vex_rows.specs.Row.Lists.{both-parts, parts-both}
 
 -- all checks of an entry's form, in their order
 abbrev pub checks_of : Entry → List Check
@@ -60,12 +62,16 @@ among_zero_one zero h = inl refl
 among_zero_one (suc zero) h = inr (inl refl)
 among_zero_one (suc (suc l)) h = absurd (omega arith)
 
-to-choices : (row : Row) → row.l ≤ 1 → Among row.kind (kinds_of row.entry.form) → Among row.group (group_choices row.entry.form row.l) → Among row (choices row.entry)
+to-choices : (row : Row) → row.l ≤ 1 → Among row.kind (kinds_of row.entry.form)
+    → Among row.group (group_choices row.entry.form row.l) → Among row (choices row.entry)
 unfolding choices
 to-choices row one_bit kind group =
-    let at_group = among-map (row_at row.entry row.w row.l row.kind) row.group (group_choices row.entry.form row.l) group in
-    let at_kind = among-flat_map (choices_of_kind row.entry row.w row.l) row.kind row (kinds_of row.entry.form) kind at_group in
-    let at_l = among-flat_map (choices_of_l row.entry row.w) row.l row (0 ∷ 1 ∷ []) (among_zero_one row.l one_bit) at_kind in
+    let at_group = among-map (row_at row.entry row.w row.l row.kind) row.group (group_choices row.entry.form row.l)
+    group in
+    let at_kind = among-flat_map (choices_of_kind row.entry row.w row.l) row.kind row (kinds_of row.entry.form) kind
+    at_group in
+    let at_l = among-flat_map (choices_of_l row.entry row.w) row.l row (0 ∷ 1 ∷ []) (among_zero_one row.l one_bit)
+    at_kind in
     among-flat_map (choices_of_w row.entry) row.w row (false ∷ true ∷ []) (among_bits row.w) at_l
 
 -- a row is chosen
@@ -75,7 +81,8 @@ chosen-row row m =
     let kept = from-filter exists row (flat_map choices table) m in
     let from = from-flat_map choices row table kept.1 in
     let choice = from-choices from.0 row from.2 in
-    let both = both-parts (allows row.entry.w row.w && allows row.entry.l (row.l == 1)) (list_all (permits_choice row) (checks_of row.entry)) kept.0 in
+    let both = both-parts (allows row.entry.w row.w && allows row.entry.l (row.l == 1))
+    (list_all (permits_choice row) (checks_of row.entry)) kept.0 in
     let rules = both-parts (allows row.entry.w row.w) (allows row.entry.l (row.l == 1)) both.0 in
     record {
       listed = subst (λ entry. Among entry table) (sym choice.entry_is) from.1;
@@ -91,5 +98,7 @@ chosen-row row m =
 pub row-chosen : (row : Row) → Chosen row → IsRow row
 unfolding IsRow rows exists
 row-chosen row chosen =
-    let among = among-flat_map choices row.entry row table chosen.listed (to-choices row chosen.one_bit chosen.kind chosen.group) in
-    among-filter exists row (flat_map choices table) (parts-both _ _ (parts-both _ _ chosen.w chosen.l) chosen.checks) among
+    let among = among-flat_map choices row.entry row table chosen.listed
+    (to-choices row chosen.one_bit chosen.kind chosen.group) in
+    among-filter exists row (flat_map choices table) (parts-both _ _ (parts-both _ _ chosen.w chosen.l) chosen.checks)
+    among

@@ -1,5 +1,6 @@
 -- Membership in lists that are mapped, filtered and joined.
-use Rattle.std.specs.Prelude.{◌≡◌, refl, ℕ, ◌<◌, ◌==◌, slice_get, ◌⊎◌, Bool, true, false, ◌&&◌, ◌||◌, List, [], ◌∷◌, ◌++◌, map, filter, flat_map, find, Option, Some, None, cond}
+use Rattle.std.specs.Prelude.{◌≡◌, refl, ℕ, ◌<◌, ◌==◌, slice_get, ◌⊎◌, Bool, true, false, ◌&&◌, ◌||◌, List, [], ◌∷◌}
+use Rattle.std.specs.Prelude.{◌++◌, map, filter, flat_map, find, Option, Some, None, cond}
 use Rattle.std.specs.List.{list_all, list_any}
 use Rattle.std.proofs.Common.{zero, suc, inl, inr, sym, ◌∙◌, ap, subst, arith}
 use Rattle.std.proofs.lemmas.Bool.{eqb-true}
@@ -31,12 +32,14 @@ from-map f y [] m = absurd m
 from-map f y (x ∷ xs) (inl e) = (x, inl refl, e)
 from-map f y (x ∷ xs) (inr m) = let k = from-map f y xs m in (k.0, inr k.1, k.2)
 
-pub among-flat_map : {A B : Type 0} (f : A → List B) (x : A) (y : B) (xs : List A) → Among x xs → Among y (f x) → Among y (flat_map f xs)
+pub among-flat_map : {A B : Type 0} (f : A → List B) (x : A) (y : B) (xs : List A) → Among x xs → Among y (f x)
+    → Among y (flat_map f xs)
 among-flat_map f x y [] k m = absurd k
 among-flat_map f x y (z ∷ xs) (inl e) m = among-append_left y (f z) (flat_map f xs) (subst (λ a. Among y (f a)) e m)
 among-flat_map f x y (z ∷ xs) (inr k) m = among-append_right y (f z) (flat_map f xs) (among-flat_map f x y xs k m)
 
-pub from-flat_map : {A B : Type 0} (f : A → List B) (y : B) (xs : List A) → Among y (flat_map f xs) → (x : A) × Among x xs × Among y (f x)
+pub from-flat_map : {A B : Type 0} (f : A → List B) (y : B) (xs : List A) → Among y (flat_map f xs)
+    → (x : A) × Among x xs × Among y (f x)
 from-flat_map f y [] m = absurd m
 from-flat_map f y (x ∷ xs) m = elim (among-append y (f x) (flat_map f xs) m) [
   | inl k ↦ (x, inl refl, k)
@@ -44,7 +47,8 @@ from-flat_map f y (x ∷ xs) m = elim (among-append y (f x) (flat_map f xs) m) [
 ]
 
 -- a filter keeps what passes its test
-kept : {A : Type 0} (x y : A) (b : Bool) (xs : List A) → Among x (cond b (y ∷ xs) xs) → ((b ≡ true) × (x ≡ y)) ⊎ Among x xs
+kept : {A : Type 0} (x y : A) (b : Bool) (xs : List A) → Among x (cond b (y ∷ xs) xs)
+    → ((b ≡ true) × (x ≡ y)) ⊎ Among x xs
 kept x y true xs (inl e) = inl (refl, e)
 kept x y true xs (inr m) = inr m
 kept x y false xs m = inr m
@@ -69,7 +73,8 @@ from-filter p x (y ∷ xs) m = elim (kept x y (p y) (filter p xs) m) [
 pub found-find : {A : Type 0} (p : A → Bool) (xs : List A) (x : A) → find p xs ≡ Some x → Among x xs × (p x ≡ true)
 found-find p [] x e = cc
 found-find p (y ∷ xs) x e = first (p y) refl e (found-find p xs x) where
-  first : (b : Bool) → p y ≡ b → cond b (Some y) (find p xs) ≡ Some x → (find p xs ≡ Some x → Among x xs × (p x ≡ true)) → Among x (y ∷ xs) × (p x ≡ true)
+  first : (b : Bool) → p y ≡ b → cond b (Some y) (find p xs) ≡ Some x
+      → (find p xs ≡ Some x → Among x xs × (p x ≡ true)) → Among x (y ∷ xs) × (p x ≡ true)
   first true h e next = let same : y ≡ x = cc in (inl (sym same), sym (ap p same) ∙ h)
   first false h e next = (inr (next e).0, (next e).1)
 
@@ -77,13 +82,15 @@ found-find p (y ∷ xs) x e = first (p y) refl e (found-find p xs x) where
 pub none-find : {A : Type 0} (p : A → Bool) (xs : List A) (x : A) → find p xs ≡ None → Among x xs → p x ≡ false
 none-find p [] x e m = absurd m
 none-find p (y ∷ xs) x e m = first (p y) refl e m (none-find p xs x) where
-  first : (b : Bool) → p y ≡ b → cond b (Some y) (find p xs) ≡ None → Among x (y ∷ xs) → (find p xs ≡ None → Among x xs → p x ≡ false) → p x ≡ false
+  first : (b : Bool) → p y ≡ b → cond b (Some y) (find p xs) ≡ None → Among x (y ∷ xs)
+      → (find p xs ≡ None → Among x xs → p x ≡ false) → p x ≡ false
   first true h e m next = cc
   first false h e (inl k) next = ap p k ∙ h
   first false h e (inr k) next = next e k
 
 -- what stands in the list and passes the test, is found where all that pass are one
-pub find-only : {A : Type 0} (p : A → Bool) (xs : List A) (x : A) → Among x xs → p x ≡ true → ((y : A) → Among y xs → p y ≡ true → y ≡ x) → find p xs ≡ Some x
+pub find-only : {A : Type 0} (p : A → Bool) (xs : List A) (x : A) → Among x xs → p x ≡ true
+    → ((y : A) → Among y xs → p y ≡ true → y ≡ x) → find p xs ≡ Some x
 find-only p xs x m h only = by (find p xs) refl where
   by : (o : Option _) → find p xs ≡ o → o ≡ Some x
   by None e = let no = none-find p xs x e m in cc
@@ -104,7 +111,8 @@ from-list_all p x [] h m = absurd m
 from-list_all p x (y ∷ xs) h (inl e) = ap p e ∙ (both-parts (p y) (list_all p xs) h).0
 from-list_all p x (y ∷ xs) h (inr m) = from-list_all p x xs (both-parts (p y) (list_all p xs) h).1 m
 
-pub list_all-each : {A : Type 0} (p : A → Bool) (xs : List A) → ((x : A) → Among x xs → p x ≡ true) → list_all p xs ≡ true
+pub list_all-each : {A : Type 0} (p : A → Bool) (xs : List A) → ((x : A) → Among x xs → p x ≡ true)
+    → list_all p xs ≡ true
 list_all-each p [] h = refl
 list_all-each p (y ∷ xs) h = parts-both (p y) (list_all p xs) (h y (inl refl)) (list_all-each p xs (λ x m. h x (inr m)))
 
@@ -167,13 +175,16 @@ no-find p xs fails = by (find p xs) refl where
 pub filter-append : {A : Type 0} (p : A → Bool) (xs ys : List A) → filter p (xs ++ ys) ≡ filter p xs ++ filter p ys
 filter-append p [] ys = refl
 filter-append p (x ∷ xs) ys = by (p x) (filter-append p xs ys) where
-  by : (b : Bool) → filter p (xs ++ ys) ≡ filter p xs ++ filter p ys → cond b (x ∷ filter p (xs ++ ys)) (filter p (xs ++ ys)) ≡ cond b (x ∷ filter p xs) (filter p xs) ++ filter p ys
+  by : (b : Bool) → filter p (xs ++ ys) ≡ filter p xs ++ filter p ys
+      → cond b (x ∷ filter p (xs ++ ys)) (filter p (xs ++ ys)) ≡ cond b (x ∷ filter p xs) (filter p xs) ++ filter p ys
   by true e = ap (λ zs. x ∷ zs) e
   by false e = e
 
-pub filter-flat_map : {A B : Type 0} (p : B → Bool) (f : A → List B) (xs : List A) → filter p (flat_map f xs) ≡ flat_map (λ x. filter p (f x)) xs
+pub filter-flat_map : {A B : Type 0} (p : B → Bool) (f : A → List B) (xs : List A)
+    → filter p (flat_map f xs) ≡ flat_map (λ x. filter p (f x)) xs
 filter-flat_map p f [] = refl
-filter-flat_map p f (x ∷ xs) = filter-append p (f x) (flat_map f xs) ∙ ap (λ ys. filter p (f x) ++ ys) (filter-flat_map p f xs)
+filter-flat_map p f (x ∷ xs) = filter-append p (f x) (flat_map f xs)
+    ∙ ap (λ ys. filter p (f x) ++ ys) (filter-flat_map p f xs)
 
 -- a test of some element
 pub any-among : {A : Type 0} (p : A → Bool) (x : A) (xs : List A) → p x ≡ true → Among x xs → list_any p xs ≡ true
@@ -187,7 +198,8 @@ any-among p x (y ∷ xs) h (inr m) = by (p y) (any-among p x xs h m) where
 pub from-any : {A : Type 0} (p : A → Bool) (xs : List A) → list_any p xs ≡ true → (x : A) × Among x xs × (p x ≡ true)
 from-any p [] h = cc
 from-any p (y ∷ xs) h = by (p y) refl h (from-any p xs) where
-  by : (b : Bool) → p y ≡ b → (b || list_any p xs) ≡ true → (list_any p xs ≡ true → (x : _) × Among x xs × (p x ≡ true)) → (x : _) × Among x (y ∷ xs) × (p x ≡ true)
+  by : (b : Bool) → p y ≡ b → (b || list_any p xs) ≡ true
+      → (list_any p xs ≡ true → (x : _) × Among x xs × (p x ≡ true)) → (x : _) × Among x (y ∷ xs) × (p x ≡ true)
   by true e h later = (y, inl refl, e)
   by false e h later = let found = later h in (found.0, inr found.1, found.2)
 

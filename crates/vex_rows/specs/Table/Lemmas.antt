@@ -33,12 +33,20 @@ from-has_key entry key h =
     let at_w = both-parts _ (allows entry.w key.w) at_l.0 in
     let at_pp = both-parts _ (pp_number entry.pp == pp_number key.pp) at_w.0 in
     let at_map = both-parts (entry.byte == key.byte) (map_number entry.map == map_number key.map) at_pp.0 in
-    record { byte = eqb-true _ _ at_map.0; map = eqb-true _ _ at_map.1; pp = eqb-true _ _ at_pp.1; w = at_w.1; l = at_l.1 }
+    record {
+      byte = eqb-true _ _ at_map.0;
+      map = eqb-true _ _ at_map.1;
+      pp = eqb-true _ _ at_pp.1;
+      w = at_w.1;
+      l =
+          at_l.1;
+    }
 
 pub to-has_key : (entry : Entry) (key : Key) → HasKey entry key → has_key entry key ≡ true
 unfolding has_key
 to-has_key entry key h =
-    parts-both _ _ (parts-both _ _ (parts-both _ _ (parts-both _ _ (eq-eqb _ _ h.byte) (eq-eqb _ _ h.map)) (eq-eqb _ _ h.pp)) h.w) h.l
+    parts-both _ _ (parts-both _ _ (parts-both _ _ (parts-both _ _ (eq-eqb _ _ h.byte) (eq-eqb _ _ h.map))
+    (eq-eqb _ _ h.pp)) h.w) h.l
 
 -- two rules that allow one bit agree
 allowed-agree : (a b : Rule) (bit : Bool) → allows a bit ≡ true → allows b bit ≡ true → agree a b ≡ true
@@ -58,20 +66,27 @@ shared a b key h k =
     (allowed-agree a.w b.w key.w p.w q.w)) (allowed-agree a.l b.l key.l p.l q.l)
 
 -- entries of a list without clashes that have one key are one
-only_one : (entries : List Entry) → clashes entries ≡ [] → (a b : Entry) (key : Key) → Among a entries → Among b entries → has_key a key ≡ true → has_key b key ≡ true → a ≡ b
+only_one : (entries : List Entry) → clashes entries ≡ [] → (a b : Entry) (key : Key) → Among a entries
+    → Among b entries → has_key a key ≡ true → has_key b key ≡ true → a ≡ b
 only_one [] none a b key m n h k = absurd m
 only_one (entry ∷ entries) none a b key (inl e) (inl f) h k = e ∙ sym f
 only_one (entry ∷ entries) none a b key (inl e) (inr n) h k =
-    let empty = none-map (λ other. (entry, other)) (filter (share_key entry) entries) (none-append (map (λ other. (entry, other)) (filter (share_key entry) entries)) (clashes entries) none).0 in
-    absurd (subst (Among b) empty (among-filter (share_key entry) b entries (subst (λ c. share_key c b ≡ true) e (shared a b key h k)) n))
+    let empty = none-map (λ other. (entry, other)) (filter (share_key entry) entries)
+    (none-append (map (λ other. (entry, other)) (filter (share_key entry) entries)) (clashes entries) none).0 in
+    absurd (subst (Among b) empty (among-filter (share_key entry) b entries
+    (subst (λ c. share_key c b ≡ true) e (shared a b key h k)) n))
 only_one (entry ∷ entries) none a b key (inr m) (inl f) h k =
-    let empty = none-map (λ other. (entry, other)) (filter (share_key entry) entries) (none-append (map (λ other. (entry, other)) (filter (share_key entry) entries)) (clashes entries) none).0 in
-    absurd (subst (Among a) empty (among-filter (share_key entry) a entries (subst (λ c. share_key c a ≡ true) f (shared b a key k h)) m))
+    let empty = none-map (λ other. (entry, other)) (filter (share_key entry) entries)
+    (none-append (map (λ other. (entry, other)) (filter (share_key entry) entries)) (clashes entries) none).0 in
+    absurd (subst (Among a) empty (among-filter (share_key entry) a entries
+    (subst (λ c. share_key c a ≡ true) f (shared b a key k h)) m))
 only_one (entry ∷ entries) none a b key (inr m) (inr n) h k =
-    only_one entries (none-append (map (λ other. (entry, other)) (filter (share_key entry) entries)) (clashes entries) none).1 a b key m n h k
+    only_one entries (none-append (map (λ other. (entry, other)) (filter (share_key entry) entries)) (clashes entries)
+    none).1 a b key m n h k
 
 -- of the entries of the table at most one has a key
-pub one_entry : (a b : Entry) (key : Key) → Among a table → Among b table → has_key a key ≡ true → has_key b key ≡ true → a ≡ b
+pub one_entry : (a b : Entry) (key : Key) → Among a table → Among b table → has_key a key ≡ true → has_key b key ≡ true
+    → a ≡ b
 one_entry a b key m n h k = only_one table no_clashes a b key m n h k
 
 -- every opcode byte is a byte
@@ -85,5 +100,6 @@ byte_of_test n h = grind (arith, nat_tests)
 pub byte_below : (entry : Entry) → Among entry table → entry.byte < 256
 byte_below entry m = byte_of_test entry.byte (by (not (nat_lt entry.byte 256)) refl) where
   by : (b : Bool) → not (nat_lt entry.byte 256) ≡ b → not (nat_lt entry.byte 256) ≡ false
-  by true e = absurd (subst (Among entry) no_large_bytes (among-filter (λ entry. not (nat_lt entry.byte 256)) entry table e m))
+  by true e = absurd (subst (Among entry) no_large_bytes
+      (among-filter (λ entry. not (nat_lt entry.byte 256)) entry table e m))
   by false e = e

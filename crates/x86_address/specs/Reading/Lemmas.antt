@@ -1,6 +1,5 @@
 -- What each step that reads keeps, which no contract cites: which errors it has, and that more bytes after those that
--- it
--- takes change nothing.
+-- it takes change nothing.
 use Rattle.std.proofs.Common.{◌≡◌, ◌≢◌, ℕ, List, [], ◌∷◌, ◌++◌, Ok, Err, Bool, true, false, if◌then◌else◌, ◌<◌, refl}
 use Rattle.std.proofs.Common.{ap, subst}
 use Rattle.x86_operand.specs.declared.error.DecodeError.{DecodeError}

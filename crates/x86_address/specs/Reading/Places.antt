@@ -14,7 +14,8 @@ use Rattle.x86_address.specs.Place.{kind_of, mod_of_displacement, mod_of, rm_of,
 use Rattle.x86_address.specs.Reading.{take_byte, take_doubleword, take_short, take_long, take_displacement}
 use Rattle.x86_address.specs.Reading.{take_baseless, take_scaled, take_sib, take_rip_based, take_based, take_place}
 use Rattle.x86_address.specs.Laws.{ReadingIsSpelling}
-use Rattle.x86_address.specs.Bytes.Lemmas.{doubleword_of_bytes, bytes_of_doubleword, high_field, middle_field, low_field}
+use Rattle.x86_address.specs.Bytes.Lemmas.{doubleword_of_bytes, bytes_of_doubleword, high_field, middle_field}
+use Rattle.x86_address.specs.Bytes.Lemmas.{low_field}
 use Rattle.x86_address.specs.Bytes.Lemmas.{high_field_below, low_field_below, packed}
 use Rattle.x86_address.specs.Place.Lemmas.{has_modrm, place_bytes_split, rm_of_below}
 use Rattle.x86_address.specs.Reading.Lemmas.{IsReader, IsReader-ok, IsReader-bind, IsReader-if, Exhausts, Answers}

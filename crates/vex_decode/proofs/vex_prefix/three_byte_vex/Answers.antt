@@ -8,7 +8,8 @@ overflow_cast-offset g c = omega (arith, rest_length three _ c.requires c.in-Ok.
 
 pub returns-in-Ok-clause-decoded : goal.returns-in-Ok-clause-decoded
 returns-in-Ok-clause-decoded g c =
-    rest_taken three _ _ (ap (λ (d : Decoded). d.meaning) c.set_len.ensures) (ap (λ (d : Decoded). d.len) c.set_len.ensures ∙ c.offset.ensures) c.requires c.in-Ok.ensures
+    rest_taken three _ _ (ap (λ (d : Decoded). d.meaning) c.set_len.ensures)
+    (ap (λ (d : Decoded). d.len) c.set_len.ensures ∙ c.offset.ensures) c.requires c.in-Ok.ensures
 
 pub returns-in-Ok-clause-noted : goal.returns-in-Ok-clause-noted
 returns-in-Ok-clause-noted g c = rest_noted three _ c.in-Ok.ensures

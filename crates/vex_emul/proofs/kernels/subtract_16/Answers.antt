@@ -7,8 +7,12 @@ use Rattle.vex_emul.proofs.kernels.subtract_16.Goals as goal
 
 pub returns : goal.returns
 returns c = elim c.match-lane.branch [
-  | in-Byte w ↦ on_bytes difference_in difference-small c.args.lane 16 c.args.v c.args.e c.match-lane.result w.in-Byte.is c.fits-v.0 c.fits-e.0 refl w.result-is
-  | in-Word w ↦ on_lanes difference_in difference-small c.args.lane Word 65536 8 16 c.args.v c.args.e c.match-lane.result w.in-Word.is refl refl refl c.fits-v.1 c.fits-e.1 w.result-is
-  | in-Doubleword w ↦ on_lanes difference_in difference-small c.args.lane Doubleword 4294967296 4 16 c.args.v c.args.e c.match-lane.result w.in-Doubleword.is refl refl refl c.fits-v.1 c.fits-e.1 w.result-is
-  | in-Quadword w ↦ on_lanes difference_in difference-small c.args.lane Quadword 18446744073709551616 2 16 c.args.v c.args.e c.match-lane.result w.in-Quadword.is refl refl refl c.fits-v.1 c.fits-e.1 w.result-is
+  | in-Byte w ↦ on_bytes difference_in difference-small c.args.lane 16 c.args.v c.args.e c.match-lane.result
+      w.in-Byte.is c.fits-v.0 c.fits-e.0 refl w.result-is
+  | in-Word w ↦ on_lanes difference_in difference-small c.args.lane Word 65536 8 16 c.args.v c.args.e
+      c.match-lane.result w.in-Word.is refl refl refl c.fits-v.1 c.fits-e.1 w.result-is
+  | in-Doubleword w ↦ on_lanes difference_in difference-small c.args.lane Doubleword 4294967296 4 16 c.args.v c.args.e
+      c.match-lane.result w.in-Doubleword.is refl refl refl c.fits-v.1 c.fits-e.1 w.result-is
+  | in-Quadword w ↦ on_lanes difference_in difference-small c.args.lane Quadword 18446744073709551616 2 16 c.args.v
+      c.args.e c.match-lane.result w.in-Quadword.is refl refl refl c.fits-v.1 c.fits-e.1 w.result-is
 ]

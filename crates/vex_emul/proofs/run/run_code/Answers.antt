@@ -16,7 +16,8 @@ pub loop-place-preserved : goal.loop-place-preserved
 loop-place-preserved c =
     let rest = take_rest c.args.code.now c.loop-place.place in
     let is = c.in-Ok.ensures in
-    Running-step _ _ _ _ _ _ c.loop-place.invariant c.step.new.machine c.in-Ok.len (rw rest at is.done) is.some (rw rest at is.within) c.step.ensures.room
+    Running-step _ _ _ _ _ _ c.loop-place.invariant c.step.new.machine c.in-Ok.len (rw rest at is.done) is.some
+    (rw rest at is.within) c.step.ensures.room
 
 pub returns-clause-ran : goal.returns-clause-ran
 returns-clause-ran c = Running-end _ _ _ _ _ _ c.loop-place.invariant c.loop-place-test.false

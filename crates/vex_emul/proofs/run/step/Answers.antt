@@ -9,22 +9,28 @@ returns-in-Err-clause-halted c = step-blocked _ _ _ _ _ c.in-Err.ensures.refused
 pub returns-in_default-clause-halted : goal.returns-in_default-clause-halted
 returns-in_default-clause-halted c =
     let decoded = c.in-Ok.ensures in
-    let none : work_of c.args.machine.now.q c.in-Ok.instruction.meaning ≡ None = cc (c.in_default.is, c.work_of.ensures.value) in
-    step-unsupported _ _ _ _ (step-decoded _ _ _ c.in-Ok.instruction c.spelling_is_read.ensures (decoded.begun.0 refl) decoded.within decoded.spelled) none
+    let none : work_of c.args.machine.now.q c.in-Ok.instruction.meaning ≡ None =
+    cc (c.in_default.is, c.work_of.ensures.value) in
+    step-unsupported _ _ _ _ (step-decoded _ _ _ c.in-Ok.instruction c.spelling_is_read.ensures (decoded.begun.0 refl)
+    decoded.within decoded.spelled) none
 
 pub returns-then-not-work-clause-halted : goal.returns-then-not-work-clause-halted
 returns-then-not-work-clause-halted c =
     let decoded = c.in-Ok.ensures in
-    let some : work_of c.args.machine.now.q c.in-Ok.instruction.meaning ≡ Some c.in-Some.work = cc (c.in-Some.ensures.value) in
-    step-out _ _ _ _ (step-decoded _ _ _ c.in-Ok.instruction c.spelling_is_read.ensures (decoded.begun.0 refl) decoded.within decoded.spelled)
+    let some : work_of c.args.machine.now.q c.in-Ok.instruction.meaning ≡ Some c.in-Some.work =
+    cc (c.in-Some.ensures.value) in
+    step-out _ _ _ _ (step-decoded _ _ _ c.in-Ok.instruction c.spelling_is_read.ensures (decoded.begun.0 refl)
+    decoded.within decoded.spelled)
     c.in-Some.work some c.if-not-work.ensures.0
 
 pub returns-clause-done : goal.returns-clause-done
 returns-clause-done c =
     let decoded = c.in-Ok.ensures in
-    let some : work_of c.args.machine.now.q c.in-Ok.instruction.meaning ≡ Some c.in-Some.work = cc (c.in-Some.ensures.value) in
+    let some : work_of c.args.machine.now.q c.in-Ok.instruction.meaning ≡ Some c.in-Some.work =
+    cc (c.in-Some.ensures.value) in
     let len : c.in-Ok.instruction.len ≡ c.from.result = cc (c.len.ensures, c.from.ensures) in
-    step-done _ _ _ _ (step-decoded _ _ _ c.in-Ok.instruction c.spelling_is_read.ensures (decoded.begun.0 refl) decoded.within decoded.spelled)
+    step-done _ _ _ _ (step-decoded _ _ _ c.in-Ok.instruction c.spelling_is_read.ensures (decoded.begun.0 refl)
+    decoded.within decoded.spelled)
     c.in-Some.work some c.work.new.self c.if-not-work.ensures
     ∙ ap (λ (n : ℕ). Ok (c.work.new.self, n)) len
 

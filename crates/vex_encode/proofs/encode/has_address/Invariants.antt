@@ -5,4 +5,5 @@ use Rattle.vex_encode.specs.Encode.{is_address}
 use Rattle.vex_encode.proofs.encode.has_address.Given as goal
 
 abbrev pub invariant-loop-i : goal.invariant-loop-i
-invariant-loop-i l = list_any is_address l.instruction.meaning.operands ≡ list_any is_address (drop l.i l.instruction.meaning.operands)
+invariant-loop-i l = list_any is_address l.instruction.meaning.operands
+    ≡ list_any is_address (drop l.i l.instruction.meaning.operands)

@@ -8,4 +8,6 @@ pub returns : goal.returns
 returns c = λ m is.
     c.spell.ensures
     ∙ written c.args.choice.now c.args.layout.now c.requires.layout (kind_seen c.args.kind) m
-    c.operand_fields-numbers.result c.place_of-place.result c.requires.kind (c.operand_fields-numbers.ensures.numbers m is) c.place_of-place.ensures.bytes c.place_of-place.ensures.x c.place_of-place.ensures.b
+    c.operand_fields-numbers.result c.place_of-place.result c.requires.kind
+    (c.operand_fields-numbers.ensures.numbers m is) c.place_of-place.ensures.bytes c.place_of-place.ensures.x
+    c.place_of-place.ensures.b

@@ -17,7 +17,8 @@ spelling_by-requires-clause-e c =
     let choice = c.args.choice.now in
     let layout = c.in_ok-layout.layout in
     let is = c.in_ok-layout.ensures.row in
-    let kind = sym (c.of-kind.ensures ∙ ap₂ (λ vector modrm. kind_by vector modrm choice.memory) is.vector is.has_modrm ∙ kind_chosen choice.entry.form choice.memory) in
+    let kind = sym (c.of-kind.ensures ∙ ap₂ (λ vector modrm. kind_by vector modrm choice.memory) is.vector is.has_modrm
+    ∙ kind_chosen choice.entry.form choice.memory) in
     let gives = (c.in-Some.ensures.gives (row_chosen choice) is kind).0 refl in
     subst (IsPlaced (kind_seen c.of-kind.result) layout.index_bank) (sym c.in-Some.ensures.asked.e)
     (layout_placed choice layout is (kind_seen c.of-kind.result) c.args.instruction.now.meaning kind gives)
@@ -28,10 +29,13 @@ returns-in-Some c =
     let is = c.in_ok-layout.ensures.row in
     let both = c.in_ok-layout.ensures.exists.0 refl in
     let there = second_true _ _ both in
-    let is_row = c.rows_are_choices.ensures.choices choice.entry choice.w choice.l choice.memory choice.group c.requires.listed (first_true _ _ both) there in
-    let kind = sym (c.of-kind.ensures ∙ ap₂ (λ vector modrm. kind_by vector modrm choice.memory) is.vector is.has_modrm ∙ kind_chosen choice.entry.form choice.memory) in
+    let is_row = c.rows_are_choices.ensures.choices choice.entry choice.w choice.l choice.memory choice.group
+    c.requires.listed (first_true _ _ both) there in
+    let kind = sym (c.of-kind.ensures ∙ ap₂ (λ vector modrm. kind_by vector modrm choice.memory) is.vector is.has_modrm
+    ∙ kind_chosen choice.entry.form choice.memory) in
     standard_given (row_chosen choice) c.args.instruction.now.meaning c.spelling_by.result is_row there
-    ((c.in-Some.ensures.gives (row_chosen choice) is kind).0 refl) (c.spelling_by.ensures c.args.instruction.now.meaning c.in-Some.ensures.asked)
+    ((c.in-Some.ensures.gives (row_chosen choice) is kind).0 refl)
+    (c.spelling_by.ensures c.args.instruction.now.meaning c.in-Some.ensures.asked)
 
 pub returns-in-None : goal.returns-in-None
 returns-in-None c =
@@ -39,7 +43,9 @@ returns-in-None c =
     let is = c.in_ok-layout.ensures.row in
     let both = c.in_ok-layout.ensures.exists.0 refl in
     let there = second_true _ _ both in
-    let is_row = c.rows_are_choices.ensures.choices choice.entry choice.w choice.l choice.memory choice.group c.requires.listed (first_true _ _ both) there in
-    let kind = sym (c.of-kind.ensures ∙ ap₂ (λ vector modrm. kind_by vector modrm choice.memory) is.vector is.has_modrm ∙ kind_chosen choice.entry.form choice.memory) in
+    let is_row = c.rows_are_choices.ensures.choices choice.entry choice.w choice.l choice.memory choice.group
+    c.requires.listed (first_true _ _ both) there in
+    let kind = sym (c.of-kind.ensures ∙ ap₂ (λ vector modrm. kind_by vector modrm choice.memory) is.vector is.has_modrm
+    ∙ kind_chosen choice.entry.form choice.memory) in
     standard_refused (row_chosen choice) c.args.instruction.now.meaning is_row there
     (λ gives. let yes = (c.in-None.ensures.gives (row_chosen choice) is kind).1 gives in cc yes)

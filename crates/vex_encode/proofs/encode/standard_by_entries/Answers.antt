@@ -7,15 +7,18 @@ use Rattle.vex_encode.proofs.Search.{among_at, best_more}
 use Rattle.vex_encode.proofs.encode.standard_by_entries.Goals as goal
 
 pub standard_by_entry-found-requires-clause-listed : goal.standard_by_entry-found-requires-clause-listed
-standard_by_entry-found-requires-clause-listed c = c.requires _ (among_at c.args.entries.now c.loop-entry.entry-index _ c.loop-entry-test.true)
+standard_by_entry-found-requires-clause-listed c =
+    c.requires _ (among_at c.args.entries.now c.loop-entry.entry-index _ c.loop-entry-test.true)
 
 pub loop-entry-preserved : goal.loop-entry-preserved
 loop-entry-preserved c =
     c.shorter-shortest.ensures
     ∙ ap₂ shorter_of c.loop-entry.invariant c.standard_by_entry-found.ensures
-    ∙ sym (best_more c.args.instruction.now.meaning c.args.entries.now c.loop-entry.entry-index _ c.loop-entry-test.true)
+    ∙ sym (best_more c.args.instruction.now.meaning c.args.entries.now c.loop-entry.entry-index _
+    c.loop-entry-test.true)
 
 pub returns : goal.returns
 returns c =
     c.loop-entry.invariant
-    ∙ ap (λ entries. best c.args.instruction.now.meaning (flat_map choices entries)) (ap (λ n. take n c.args.entries.now) (omega arith) ∙ take-length c.args.entries.now)
+    ∙ ap (λ entries. best c.args.instruction.now.meaning (flat_map choices entries))
+    (ap (λ n. take n c.args.entries.now) (omega arith) ∙ take-length c.args.entries.now)

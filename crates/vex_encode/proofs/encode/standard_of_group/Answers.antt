@@ -6,8 +6,12 @@ use Rattle.vex_encode.proofs.encode.standard_of_group.Goals as goal
 
 pub returns-then-not-is : goal.returns-then-not-is
 returns-then-not-is c =
-    other_group_row c.args.entry.now c.args.w c.args.l c.args.memory c.args.group c.args.instruction.now.meaning c.requires.group
+    other_group_row c.args.entry.now c.args.w c.args.l c.args.memory c.args.group c.args.instruction.now.meaning
+    c.requires.group
     (λ same. let yes = c.is.ensures.1 (c.opcode.ensures ∙ same) in let no = c.if-not-is.true in cc)
 
 pub invariant_of-choice : goal.invariant_of-choice
-invariant_of-choice c = record { group_fits = small_group c.args.entry.now.form (if c.args.l then 1 else 0) c.args.group c.requires.group }
+invariant_of-choice c = record {
+  group_fits =
+      small_group c.args.entry.now.form (if c.args.l then 1 else 0) c.args.group c.requires.group;
+}

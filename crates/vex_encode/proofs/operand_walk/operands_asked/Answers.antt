@@ -16,7 +16,8 @@ returns-then-not-put_before-clause-fit c =
     let i = c.loop-i.i - 1 in (
       (λ h. cc),
       (λ fit.
-          let parts = fit_parts kind bank slots operands i _ (omega (arith, c.loop-i.invariant.0, c.loop-i-test.true)) c.loop-i.invariant.1 (fit_drop kind bank slots operands i fit) in
+          let parts = fit_parts kind bank slots operands i _ (omega (arith, c.loop-i.invariant.0, c.loop-i-test.true))
+          c.loop-i.invariant.1 (fit_drop kind bank slots operands i fit) in
           let yes = c.put_before.ensures.fits.1 parts.0 in
           cc (yes, c.if-not-put_before.true)),
     )

@@ -4,4 +4,8 @@ use Rattle.vex_encode.proofs.Canon.{none_spells}
 use Rattle.vex_encode.proofs.shortest.encode_shortest.Goals as goal
 
 pub returns-in-None-clause-none : goal.returns-in-None-clause-none
-returns-in-None-clause-none g c = ((λ h bytes spells. none_spells c.args.instruction.now.meaning c.in-None.ensures.canonical bytes spells), (λ h. refl))
+returns-in-None-clause-none g c = (
+  (λ h bytes spells. none_spells c.args.instruction.now.meaning
+      c.in-None.ensures.canonical bytes spells),
+  (λ h. refl),
+)

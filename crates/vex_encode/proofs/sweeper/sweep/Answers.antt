@@ -21,18 +21,22 @@ loop-place-preserved c =
 pub returns-in-Err-clause-items : goal.returns-in-Err-clause-items
 returns-in-Err-clause-items c =
     let refused = rw (take_rest c.args.bytes.now c.loop-place.place) at c.in-Err.ensures.refused in
-    ap (λ (s : Swept). s.items) (sym (Sweeping-stop _ _ _ _ c.loop-place.invariant c.in-Err.error c.loop-place-test.true refused))
+    ap (λ (s : Swept). s.items) (sym (Sweeping-stop _ _ _ _ c.loop-place.invariant c.in-Err.error
+    c.loop-place-test.true refused))
 
 pub returns-in-Err-clause-end : goal.returns-in-Err-clause-end
 returns-in-Err-clause-end c =
     let refused = rw (take_rest c.args.bytes.now c.loop-place.place) at c.in-Err.ensures.refused in
-    ap (λ (s : Swept). s.end) (sym (Sweeping-stop _ _ _ _ c.loop-place.invariant c.in-Err.error c.loop-place-test.true refused))
+    ap (λ (s : Swept). s.end) (sym (Sweeping-stop _ _ _ _ c.loop-place.invariant c.in-Err.error c.loop-place-test.true
+    refused))
 
 pub returns-in-Err-clause-read : goal.returns-in-Err-clause-read
 returns-in-Err-clause-read c = front-read _ _ _ _ c.loop-place.invariant
 
 pub returns-clause-items : goal.returns-clause-items
-returns-clause-items c = ap (λ (s : Swept). s.items) (sym (Sweeping-end _ _ _ _ c.loop-place.invariant c.loop-place-test.false).0)
+returns-clause-items c = ap (λ (s : Swept). s.items)
+    (sym (Sweeping-end _ _ _ _ c.loop-place.invariant c.loop-place-test.false).0)
 
 pub returns-clause-end : goal.returns-clause-end
-returns-clause-end c = ap (λ (s : Swept). s.end) (sym (Sweeping-end _ _ _ _ c.loop-place.invariant c.loop-place-test.false).0)
+returns-clause-end c = ap (λ (s : Swept). s.end)
+    (sym (Sweeping-end _ _ _ _ c.loop-place.invariant c.loop-place-test.false).0)

@@ -7,4 +7,5 @@ use Rattle.vex_forms.proofs.checks.check_each.Given as goal
 
 abbrev pub invariant-loop-check : goal.invariant-loop-check
 invariant-loop-check l =
-    (bytes : List ℕ) → check_all l.entry (fields_of l.prefix) (kind_seen l.kind) l.reg l.checks bytes ≡ check_all l.entry (fields_of l.prefix) (kind_seen l.kind) l.reg (drop l.check-index l.checks) bytes
+    (bytes : List ℕ) → check_all l.entry (fields_of l.prefix) (kind_seen l.kind) l.reg l.checks bytes
+    ≡ check_all l.entry (fields_of l.prefix) (kind_seen l.kind) l.reg (drop l.check-index l.checks) bytes

@@ -12,6 +12,7 @@ invariant-loop-slot l =
     ≡ record {
       evex = false;
       opcode = l.fn.opcode;
-      operands = map (slot_operand l.index_bank (bit l.fields.r) l.fields.vvvv l.fields.reg (target_seen l.fields.e) l.fields.imm) (take l.slot-index l.slots);
+      operands = map (slot_operand l.index_bank (bit l.fields.r) l.fields.vvvv l.fields.reg (target_seen l.fields.e)
+          l.fields.imm) (take l.slot-index l.slots);
       size = l.fn.mem_size;
     })

@@ -10,5 +10,7 @@ use Rattle.vex_forms.proofs.reading.read_operands.Goals as goal
 pub returns-in_err-do_checks : goal.returns-in_err-do_checks
 unfolding walk_form
 returns-in_err-do_checks g c =
-    let checked = subst (λ (form : FormSteps). Decides {B = Unit {0}} (check_all c.args.entry.now (fields_of c.args.prefix.now) WithoutModRM 0 form.before_modrm) Any (Err c.in_err-do_checks.field-0.0)) c.row_of_form-form.ensures.steps c.in_err-do_checks.ensures in
+    let checked = subst (λ (form : FormSteps). Decides {B = Unit {0}}
+    (check_all c.args.entry.now (fields_of c.args.prefix.now) WithoutModRM 0 form.before_modrm) Any
+    (Err c.in_err-do_checks.field-0.0)) c.row_of_form-form.ensures.steps c.in_err-do_checks.ensures in
     fails_first _ _ c.from_residual.ensures (follows_decided _ checked)

@@ -15,10 +15,15 @@ returns c = λ group is.
     let row = row_for entry c.args.w c.args.l c.args.memory group in
     let m = c.args.instruction.now.meaning in
     let slots_are : c.as_slice-slots.result.now ≡ slots row = c.as_slice-slots.ensures.value ∙ is.slots in
-    let g_is : c.number_of-g.result ≡ g_number row m = c.number_of-g.ensures ∙ ap number_of (c.operand_of.ensures ∙ ap (λ s. operand_of_kind (names of_kind.G) s m.operands) slots_are) in
-    let v_is : c.number_of-v.result ≡ v_number row m = c.number_of-v.ensures ∙ ap number_of (c.operand_of-2.ensures ∙ ap (λ s. operand_of_kind (names of_kind.V) s m.operands) slots_are) in
+    let g_is : c.number_of-g.result ≡ g_number row m =
+    c.number_of-g.ensures ∙ ap number_of
+    (c.operand_of.ensures ∙ ap (λ s. operand_of_kind (names of_kind.G) s m.operands) slots_are) in
+    let v_is : c.number_of-v.result ≡ v_number row m =
+    c.number_of-v.ensures ∙ ap number_of
+    (c.operand_of-2.ensures ∙ ap (λ s. operand_of_kind (names of_kind.V) s m.operands) slots_are) in
     let kind_is = ap (λ modrm. kind_by modrm c.args.memory) is.has_modrm ∙ kind_plain entry.form c.args.memory in
-    let e_is = c.operand_e-e.ensures ∙ ap₂ target_of kind_is (c.operand_of-3.ensures ∙ ap (λ s. operand_of_kind (names of_kind.E) s m.operands) slots_are) in
+    let e_is = c.operand_e-e.ensures ∙ ap₂ target_of kind_is
+    (c.operand_of-3.ensures ∙ ap (λ s. operand_of_kind (names of_kind.E) s m.operands) slots_are) in
     let imm_is = c.operand_of-4.ensures ∙ ap (λ s. operand_of_kind (names of_kind.Immediate) s m.operands) slots_are in
     record {
       map = refl;
@@ -26,7 +31,8 @@ returns c = λ group is.
       w = refl;
       l = bit_if c.args.l;
       byte = refl;
-      reg = c.unwrap_or.ensures ∙ reg_unwrapped c.args.layout.now.group c.number_of-g.result ∙ ap₂ reg_for is.group g_is;
+      reg = c.unwrap_or.ensures ∙ reg_unwrapped c.args.layout.now.group c.number_of-g.result
+          ∙ ap₂ reg_for is.group g_is;
       target = e_is;
       has_imm = is.has_imm;
       imm = c.immediates_of-imm.ensures.least ∙ ap imm_of imm_is;

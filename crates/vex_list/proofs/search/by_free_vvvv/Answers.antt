@@ -8,9 +8,12 @@ pub loop-inverted-init : goal.loop-inverted-init
 loop-inverted-init c = λ row is. cover_none c.args.instruction.now.meaning c.args.previous.now 0 _ c.args.nearest
 
 pub loop-inverted-preserved : goal.loop-inverted-preserved
-loop-inverted-preserved c = λ row is. cover_more c.args.instruction.now.meaning c.args.previous.now 0 c.loop-inverted.inverted _ _ _ _ (c.loop-inverted.invariant row is) (c.by_address-nearest.ensures row is)
+loop-inverted-preserved c = λ row is. cover_more c.args.instruction.now.meaning c.args.previous.now 0
+    c.loop-inverted.inverted _ _ _ _ (c.loop-inverted.invariant row is) (c.by_address-nearest.ensures row is)
 
 pub returns : goal.returns
 returns c = λ row is.
-    cover_fewer c.args.instruction.now.meaning c.args.previous.now _ _ _ _ (λ b. by_inverted row c.args.instruction.now.meaning c.args.parts.now c.args.choices b)
-    (cover_to c.args.instruction.now.meaning c.args.previous.now 0 _ _ _ _ _ (omega arith) (c.loop-inverted.invariant row is))
+    cover_fewer c.args.instruction.now.meaning c.args.previous.now _ _ _ _
+    (λ b. by_inverted row c.args.instruction.now.meaning c.args.parts.now c.args.choices b)
+    (cover_to c.args.instruction.now.meaning c.args.previous.now 0 _ _ _ _ _ (omega arith)
+    (c.loop-inverted.invariant row is))

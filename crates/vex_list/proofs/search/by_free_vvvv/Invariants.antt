@@ -8,4 +8,6 @@ use Rattle.vex_list.proofs.search.by_free_vvvv.Given as goal
 abbrev pub invariant-loop-inverted : goal.invariant-loop-inverted
 invariant-loop-inverted l =
     (row : Row) → IsRowParts row l.instruction.meaning l.parts
-    → Covers l.instruction.meaning l.previous (Between 0 l.inverted (λ n. ByAddress row l.instruction.meaning l.parts (with_vvvv l.choices (15 - n)))) l.initial.nearest l.nearest
+    → Covers l.instruction.meaning l.previous
+    (Between 0 l.inverted (λ n. ByAddress row l.instruction.meaning l.parts (with_vvvv l.choices (15 - n))))
+    l.initial.nearest l.nearest

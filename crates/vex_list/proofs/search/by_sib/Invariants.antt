@@ -8,4 +8,6 @@ use Rattle.vex_list.proofs.search.by_sib.Given as goal
 abbrev pub invariant-loop-exponent : goal.invariant-loop-exponent
 invariant-loop-exponent l =
     (row : Row) → IsRowParts row l.instruction.meaning l.parts
-    → Covers l.instruction.meaning l.previous (Between 0 l.exponent (λ n. ByLow row l.instruction.meaning l.parts (with_address l.choices (WithSib n l.width)))) l.initial.nearest l.nearest
+    → Covers l.instruction.meaning l.previous
+    (Between 0 l.exponent (λ n. ByLow row l.instruction.meaning l.parts
+    (with_address l.choices (WithSib n l.width)))) l.initial.nearest l.nearest

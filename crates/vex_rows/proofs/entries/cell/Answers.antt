@@ -1,5 +1,6 @@
 -- The place of a key's cell in the code is that of the definition.
-use Rattle.std.proofs.Common.{◌≡◌, ◌≢◌, ℕ, ◌+◌, ◌*◌, ◌<◌, Bool, true, false, Some, get_or, slice_get, sym, subst, refl, ap₂, ◌∙◌, le_refl, arith}
+use Rattle.std.proofs.Common.{◌≡◌, ◌≢◌, ℕ, ◌+◌, ◌*◌, ◌<◌, Bool, true, false, Some, get_or, slice_get, sym, subst, refl}
+use Rattle.std.proofs.Common.{ap₂, ◌∙◌, le_refl, arith}
 use Rattle.vex_rows.specs.declared.entry.Entry.{Entry}
 use Rattle.vex_rows.specs.Index.{bit, cell_of}
 use Rattle.vex_rows.specs.Row.{Among}
@@ -21,8 +22,10 @@ returns-in-Some c =
     let key = c.args.key.now in
     let byte : key.byte < 256 = omega arith in
     let is : c.in-Some.cell.now ≡ cell_of key =
-    c.in-Some.ensures.lookup.3.1 65535 ∙ ap₂ (λ cells i. get_or cells i 65535) c.cells_at.ensures (same_place key.byte key.w key.l) in
-    let Filled : ℕ → Type 0 = λ n. n ≢ 65535 → (entry : Entry) × (slice_get table n ≡ Some entry) × (has_key entry key ≡ true) in
+    c.in-Some.ensures.lookup.3.1 65535 ∙ ap₂ (λ cells i. get_or cells i 65535) c.cells_at.ensures
+    (same_place key.byte key.w key.l) in
+    let Filled : ℕ → Type 0 = λ n. n ≢ 65535
+    → (entry : Entry) × (slice_get table n ≡ Some entry) × (has_key entry key ≡ true) in
     let Empty : ℕ → Type 0 = λ n. n ≡ 65535 → (entry : Entry) → Among entry table → has_key entry key ≡ false in
     record { filled = subst Filled (sym is) (found_at key byte); empty = subst Empty (sym is) (none_at key) }
 
@@ -31,5 +34,6 @@ unfolding cell_of
 returns-in-None-clause-empty c =
     let key = c.args.key.now in
     let is : cell_of key ≡ 65535 =
-    sym (c.in-None.ensures.lookup.4 (le_refl _) 65535 ∙ ap₂ (λ cells i. get_or cells i 65535) c.cells_at.ensures (same_place key.byte key.w key.l)) in
+    sym (c.in-None.ensures.lookup.4 (le_refl _) 65535
+    ∙ ap₂ (λ cells i. get_or cells i 65535) c.cells_at.ensures (same_place key.byte key.w key.l)) in
     λ _. none_at key is

@@ -16,7 +16,8 @@ record Taken (key : Key) (entry : Entry) : Type 0 where
   has : has_key entry key ≡ true
   only : (other : Entry) → Among other table → has_key other key ≡ true → other ≡ entry
 
-taken : (key : Key) (place : ℕ) → (named : Entry) × (slice_get table place ≡ Some named) × (has_key named key ≡ true) → (entry : Entry) → slice_get table place ≡ Some entry → Taken key entry
+taken : (key : Key) (place : ℕ) → (named : Entry) × (slice_get table place ≡ Some named) × (has_key named key ≡ true)
+    → (entry : Entry) → slice_get table place ≡ Some entry → Taken key entry
 taken key place named entry at =
     let same : named.0 ≡ entry = let both : Some named.0 ≡ Some entry = sym named.1 ∙ at in cc in
     let has : has_key entry key ≡ true = sym (ap (λ e. has_key e key) same) ∙ named.2 in
@@ -35,10 +36,12 @@ returns-then-cell-clause-exact g c =
 
 pub returns-else-cell-clause-found : goal.returns-else-cell-clause-found
 returns-else-cell-clause-found g c =
-    let at = taken c.args.key.now _ (c.cell-cell.ensures.filled c.if-cell.false) c.entry_at.result c.entry_at.ensures.entry in
+    let at = taken c.args.key.now _ (c.cell-cell.ensures.filled c.if-cell.false) c.entry_at.result
+    c.entry_at.ensures.entry in
     (at.listed, at.has, at.only)
 
 pub returns-else-cell-clause-exact : goal.returns-else-cell-clause-exact
 returns-else-cell-clause-exact g c =
-    let at = taken c.args.key.now _ (c.cell-cell.ensures.filled c.if-cell.false) c.entry_at.result c.entry_at.ensures.entry in
+    let at = taken c.args.key.now _ (c.cell-cell.ensures.filled c.if-cell.false) c.entry_at.result
+    c.entry_at.ensures.entry in
     sym (find-only (λ entry. has_key entry c.args.key.now) table c.entry_at.result at.listed at.has at.only)

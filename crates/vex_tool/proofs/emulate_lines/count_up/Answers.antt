@@ -6,7 +6,8 @@ pub loop-i-init : goal.loop-i-init
 loop-i-init c = sym (ap (λ t. t ++ c.args.bytes.now) (counting-none c.args.first))
 
 pub loop-i-preserved : goal.loop-i-preserved
-loop-i-preserved c = counted c.args.first c.loop-i.i c.loop-i.bytes c.args.bytes.now c.loop-i-test.true c.loop-i.invariant
+loop-i-preserved c = counted c.args.first c.loop-i.i c.loop-i.bytes c.args.bytes.now c.loop-i-test.true
+    c.loop-i.invariant
 
 pub returns : goal.returns
 returns c =

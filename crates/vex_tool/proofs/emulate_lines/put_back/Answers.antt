@@ -9,7 +9,8 @@ loop-i-init c =
 
 pub loop-i-preserved : goal.loop-i-preserved
 loop-i-preserved c =
-    started-more c.loop-i.i c.loop-i.machine c.set_vector.new.self c.set_q.new.self c.from.result c.block_from.result c.from-in-loop-i.result
+    started-more c.loop-i.i c.loop-i.machine c.set_vector.new.self c.set_q.new.self c.from.result c.block_from.result
+    c.from-in-loop-i.result
     c.loop-i.invariant c.from.ensures c.block_from.ensures c.from-in-loop-i.ensures c.set_vector.ensures c.set_q.ensures
 
 pub returns : goal.returns

@@ -5,5 +5,6 @@ use Rattle.vex_tool.proofs.emulate_lines.write_blocks.Given as goal
 
 abbrev pub invariant-loop-b : goal.invariant-loop-b
 invariant-loop-b g l =
-    Wrote (block_line l.memory) (take l.b (numbers 32)) (record { text = g.K.Sink.text l.fn.sink; faults = g.K.Sink.faults l.fn.sink })
+    Wrote (block_line l.memory) (take l.b (numbers 32))
+    (record { text = g.K.Sink.text l.fn.sink; faults = g.K.Sink.faults l.fn.sink })
     (record { text = g.K.Sink.text l.sink; faults = g.K.Sink.faults l.sink })

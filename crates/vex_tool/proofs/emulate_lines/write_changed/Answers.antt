@@ -13,6 +13,7 @@ pub returns : goal.returns
 returns g c =
     let piece : c.as_bytes.result.now ≡ changed_line c.args.letter.now c.args.number c.args.bytes.now c.args.first.now =
     c.as_bytes.ensures.value ∙ c.as_str.ensures.value ∙ c.changed_text.ensures
-    ∙ sym (changed c.args.letter.now c.args.number c.args.bytes.now c.args.first.now (sym c.eq.ensures ∙ c.if-eq.false)) in
+    ∙ sym (changed c.args.letter.now c.args.number c.args.bytes.now c.args.first.now
+    (sym c.eq.ensures ∙ c.if-eq.false)) in
     let written = rw piece at c.write_all.ensures in
     record { appends = written.appends; quiet = written.quiet; front = written.front; cause = written.cause }

@@ -13,11 +13,13 @@ returns-in_err-write_vectors g c =
     c.run-answer.ensures c.machine.view_is in
     let vectors = c.in_err-write_vectors.ensures in
     rw whole
-    (Writes-fault _ failed.0 _ _ _ _ _ failed.1 (AppendsFront-more _ _ _ _ (AppendsFront-more _ _ _ _ vectors.front)) vectors.cause)
+    (Writes-fault _ failed.0 _ _ _ _ _ failed.1 (AppendsFront-more _ _ _ _ (AppendsFront-more _ _ _ _ vectors.front))
+    vectors.cause)
 
 pub returns-in_err-write_blocks : goal.returns-in_err-write_blocks
 returns-in_err-write_blocks g c =
-    let failed = err_from_is_err_and c.from_residual-in_err-write_blocks.result c.from_residual-in_err-write_blocks.ensures.1 in
+    let failed = err_from_is_err_and c.from_residual-in_err-write_blocks.result
+    c.from_residual-in_err-write_blocks.ensures.1 in
     let whole =
     emulated c.args.settings.now c.args.code.now c.run-answer.new.self c.machine.inside.machine c.run-answer.result
     c.run-answer.ensures c.machine.view_is in

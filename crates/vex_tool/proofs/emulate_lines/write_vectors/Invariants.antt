@@ -5,5 +5,6 @@ use Rattle.vex_tool.proofs.emulate_lines.write_vectors.Given as goal
 
 abbrev pub invariant-loop-i : goal.invariant-loop-i
 invariant-loop-i g l =
-    Wrote (vector_line l.machine.vectors) (take l.i (numbers 16)) (record { text = g.K.Sink.text l.fn.sink; faults = g.K.Sink.faults l.fn.sink })
+    Wrote (vector_line l.machine.vectors) (take l.i (numbers 16))
+    (record { text = g.K.Sink.text l.fn.sink; faults = g.K.Sink.faults l.fn.sink })
     (record { text = g.K.Sink.text l.sink; faults = g.K.Sink.faults l.sink })

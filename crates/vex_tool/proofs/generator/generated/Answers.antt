@@ -9,4 +9,5 @@ pub entry_of-entry-requires-clause-place : goal.entry_of-entry-requires-clause-p
 entry_of-entry-requires-clause-place c = entry-place c.args.i c.entry_count-count.result c.entry_count-count.ensures
 
 pub returns : goal.returns
-returns c = c.spelling_of.ensures ∙ generated-at c.args.i c.entry_count-count.result c.entry_of-entry.result c.entry_count-count.ensures c.entry_of-entry.ensures
+returns c = c.spelling_of.ensures ∙ generated-at c.args.i c.entry_count-count.result c.entry_of-entry.result
+    c.entry_count-count.ensures c.entry_of-entry.ensures

@@ -6,7 +6,8 @@ use Rattle.vex_tool.proofs.generator.greatest_row.Goals as goal
 pub returns-in-Some-clause-field : goal.returns-in-Some-clause-field
 returns-in-Some-clause-field c =
     c.loop-above.invariant
-    ∙ greatest-found c.args.entry.now c.args.w c.args.l c.args.memory c.loop-above.above c.loop-above-test.true (c.in-Some.ensures.exists.0 refl)
+    ∙ greatest-found c.args.entry.now c.args.w c.args.l c.args.memory c.loop-above.above c.loop-above-test.true
+    (c.in-Some.ensures.exists.0 refl)
 
 pub loop-above-preserved : goal.loop-above-preserved
 loop-above-preserved c =
@@ -21,4 +22,5 @@ pub returns-clause-none : goal.returns-clause-none
 returns-clause-none c = λ _.
     let above = c.loop-above.above in
     let end : 8 - above ≡ 0 = omega (arith, c.loop-above-test.false) in
-    c.loop-above.invariant ∙ ap (greatest c.args.entry.now c.args.w c.args.l c.args.memory) end ∙ greatest-none c.args.entry.now c.args.w c.args.l c.args.memory
+    c.loop-above.invariant ∙ ap (greatest c.args.entry.now c.args.w c.args.l c.args.memory) end
+    ∙ greatest-none c.args.entry.now c.args.w c.args.l c.args.memory

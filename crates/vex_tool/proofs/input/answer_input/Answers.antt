@@ -3,7 +3,8 @@ use Rattle.std.proofs.lemmas.List.{length-take-le}
 use Rattle.vex_tool.specs.Report.{MayLackMemory}
 use Rattle.vex_tool.proofs.ReportLemmas.{SameForLong-report}
 use Rattle.vex_tool.proofs.FeedLemmas.{Fed-stopped-handed_on}
-use Rattle.vex_tool.proofs.RunLemmas.{Going-first, Going-handed_on, Going-step, Gave-read, Gave-none, Ran-read_fault, Ran-done, Ran-finish_halted, Ran-too_long, Ran-feed_halted, Ran-flush_fault}
+use Rattle.vex_tool.proofs.RunLemmas.{Going-first, Going-handed_on, Going-step, Gave-read, Gave-none, Ran-read_fault}
+use Rattle.vex_tool.proofs.RunLemmas.{Ran-done, Ran-finish_halted, Ran-too_long, Ran-feed_halted, Ran-flush_fault}
 use Rattle.vex_tool.proofs.input.answer_input.Goals as goal
 
 pub loop-buffer-init : goal.loop-buffer-init
@@ -16,13 +17,15 @@ returns-in-Err g c =
 
 pub returns-in-Err-read : goal.returns-in-Err-read
 returns-in-Err-read g c =
-    let going = Going-handed_on _ _ _ _ _ _ _ c.loop-buffer.invariant c.flush.ensures.keeps c.in_default.ensures.quiet in
+    let going = Going-handed_on _ _ _ _ _ _ _ c.loop-buffer.invariant c.flush.ensures.keeps c.in_default.ensures.quiet
+    in
     let read = c.in-Err-read.ensures in
     Ran-read_fault _ _ _ _ _ _ going (SameForLong-report _) _ _ _ read.keeps read.keeps_number read.cause
 
 pub returns-in-Ok-finish : goal.returns-in-Ok-finish
 returns-in-Ok-finish g c =
-    let going = Going-handed_on _ _ _ _ _ _ _ c.loop-buffer.invariant c.flush.ensures.keeps c.in_default.ensures.quiet in
+    let going = Going-handed_on _ _ _ _ _ _ _ c.loop-buffer.invariant c.flush.ensures.keeps c.in_default.ensures.quiet
+    in
     let read = c.in-Ok-eq0.ensures in
     let none = c.in-Ok-eq0.field-0-test in
     let written = c.in-Ok-finish.ensures in
@@ -32,7 +35,8 @@ returns-in-Ok-finish g c =
 
 pub returns-in-Err-finish : goal.returns-in-Err-finish
 returns-in-Err-finish g c =
-    let going = Going-handed_on _ _ _ _ _ _ _ c.loop-buffer.invariant c.flush.ensures.keeps c.in_default.ensures.quiet in
+    let going = Going-handed_on _ _ _ _ _ _ _ c.loop-buffer.invariant c.flush.ensures.keeps c.in_default.ensures.quiet
+    in
     let read = c.in-Ok-eq0.ensures in
     let none = c.in-Ok-eq0.field-0-test in
     rw c.status.ensures
@@ -42,7 +46,8 @@ returns-in-Err-finish g c =
 
 pub returns-in-Ok : goal.returns-in-Ok
 returns-in-Ok g c =
-    let going = Going-handed_on _ _ _ _ _ _ _ c.loop-buffer.invariant c.flush.ensures.keeps c.in_default.ensures.quiet in
+    let going = Going-handed_on _ _ _ _ _ _ _ c.loop-buffer.invariant c.flush.ensures.keeps c.in_default.ensures.quiet
+    in
     let read = c.in-Ok.ensures in
     let n = c.in-Ok.field-0 in
     let same = c.read.auto.into in
@@ -55,7 +60,8 @@ returns-in-Ok g c =
 
 pub returns-in-Err-feed : goal.returns-in-Err-feed
 returns-in-Err-feed g c =
-    let going = Going-handed_on _ _ _ _ _ _ _ c.loop-buffer.invariant c.flush.ensures.keeps c.in_default.ensures.quiet in
+    let going = Going-handed_on _ _ _ _ _ _ _ c.loop-buffer.invariant c.flush.ensures.keeps c.in_default.ensures.quiet
+    in
     let read = c.in-Ok.ensures in
     let n = c.in-Ok.field-0 in
     let same = c.read.auto.into in
@@ -65,11 +71,14 @@ returns-in-Err-feed g c =
     rw c.status-in-Err-feed.ensures
     (Ran-feed_halted _ _ _ _ _ _ going (SameForLong-report _) _ _ _ _ _
     (Gave-read _ _ _ _ _ c.read.new.into fits read.takes read.counts read.quiet)
-    (rw (length-take-le n c.read.new.into fits) within) (Fed-stopped-handed_on _ _ _ _ _ _ _ _ _ _ _ _ c.in-Err-feed.ensures.written c.stopped.ensures.keeps c.stopped.ensures.cause))
+    (rw (length-take-le n c.read.new.into fits) within)
+    (Fed-stopped-handed_on _ _ _ _ _ _ _ _ _ _ _ _ c.in-Err-feed.ensures.written c.stopped.ensures.keeps
+    c.stopped.ensures.cause))
 
 pub loop-buffer-preserved : goal.loop-buffer-preserved
 loop-buffer-preserved g c =
-    let going = Going-handed_on _ _ _ _ _ _ _ c.loop-buffer.invariant c.flush.ensures.keeps c.in_default.ensures.quiet in
+    let going = Going-handed_on _ _ _ _ _ _ _ c.loop-buffer.invariant c.flush.ensures.keeps c.in_default.ensures.quiet
+    in
     let read = c.in-Ok.ensures in
     let n = c.in-Ok.field-0 in
     let same = c.read.auto.into in

@@ -6,7 +6,8 @@ use Rattle.vex_tool.proofs.laws.result_line_assembles.Goals as goal
 pub returns-in-Ok : goal.returns-in-Ok
 returns-in-Ok c =
     let recoded = c.in-Ok.ensures in
-    result-assembles c.result_lines.ensures.spelling c.assembled_lines.ensures.text c.args.settings.now c.args.bytes.now _ _ _
+    result-assembles c.result_lines.ensures.spelling c.assembled_lines.ensures.text c.args.settings.now
+    c.args.bytes.now _ _ _
     recoded.within recoded.spelled recoded.permitted recoded.canonical c.instruction_in_range.ensures
 
 pub returns-in-Err : goal.returns-in-Err

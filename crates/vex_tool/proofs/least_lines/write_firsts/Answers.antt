@@ -17,10 +17,12 @@ returns-in_err-write_all g c =
     let list = c.args.firsts.now in
     let i = c.loop-first.first-index in
     let wrote = c.loop-first.invariant in
-    let front = rw (c.as_bytes.ensures.value, c.as_str.ensures.value, c.need_text.ensures) at c.in_err-write_all.ensures.front in
+    let front = rw (c.as_bytes.ensures.value, c.as_str.ensures.value, c.need_text.ensures) at
+    c.in_err-write_all.ensures.front in
     let at = at-default list i _ c.loop-first-test.true in
     Writes-fault _ failed.0 _ _ _ _ _ failed.1
-    (Wrote-fault need_line list _ (drop (i + 1) list) _ _ _ _ wrote (split-item list i _ c.loop-first-test.true at) front)
+    (Wrote-fault need_line list _ (drop (i + 1) list) _ _ _ _ wrote (split-item list i _ c.loop-first-test.true at)
+    front)
     (rw wrote.quiet at c.in_err-write_all.ensures.cause)
 
 pub loop-first-preserved : goal.loop-first-preserved
@@ -29,7 +31,8 @@ loop-first-preserved g c =
     let list = c.args.firsts.now in
     let i = c.loop-first.first-index in
     let written = rw (c.as_bytes.ensures.value, c.as_str.ensures.value, c.need_text.ensures) at more.appends in
-    rw (take-item list i _ c.loop-first-test.true (at-default list i (record { bit = 0; place = 0; opcode = Invalid }) c.loop-first-test.true))
+    rw (take-item list i _ c.loop-first-test.true
+    (at-default list i (record { bit = 0; place = 0; opcode = Invalid }) c.loop-first-test.true))
     (Wrote-step need_line _ _ _ _ _ c.loop-first.invariant written more.quiet)
 
 pub returns : goal.returns

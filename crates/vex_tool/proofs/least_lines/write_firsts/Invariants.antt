@@ -5,5 +5,6 @@ use Rattle.vex_tool.proofs.least_lines.write_firsts.Given as goal
 
 abbrev pub invariant-loop-first : goal.invariant-loop-first
 invariant-loop-first g l =
-    Wrote need_line (take l.first-index l.firsts) (record { text = g.K.Sink.text l.fn.sink; faults = g.K.Sink.faults l.fn.sink })
+    Wrote need_line (take l.first-index l.firsts)
+    (record { text = g.K.Sink.text l.fn.sink; faults = g.K.Sink.faults l.fn.sink })
     (record { text = g.K.Sink.text l.sink; faults = g.K.Sink.faults l.sink })

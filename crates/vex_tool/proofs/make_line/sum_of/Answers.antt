@@ -5,7 +5,14 @@ use Rattle.vex_tool.proofs.make_line.sum_of.Goals as goal
 
 pub overflow_add-sum : goal.overflow_add-sum
 overflow_add-sum c =
-    omega (arith, c.loop-byte.invariant.1, c.loop-byte-test.true, c.requires, c.from-sum.ensures, c.type_inv.bytes c.loop-byte.byte-index)
+    omega (
+      arith,
+      c.loop-byte.invariant.1,
+      c.loop-byte-test.true,
+      c.requires,
+      c.from-sum.ensures,
+      c.type_inv.bytes c.loop-byte.byte-index,
+    )
 
 pub loop-byte-preserved : goal.loop-byte-preserved
 loop-byte-preserved c =
@@ -20,5 +27,6 @@ loop-byte-preserved c =
 pub returns-clause-value : goal.returns-clause-value
 returns-clause-value c =
     let bytes = c.args.bytes.now in
-    let ended : c.loop-byte.byte-index ≡ length bytes = omega (arith, c.loop-byte-test.false, c.loop-byte.auto.byte-index-end) in
+    let ended : c.loop-byte.byte-index ≡ length bytes =
+    omega (arith, c.loop-byte-test.false, c.loop-byte.auto.byte-index-end) in
     c.loop-byte.invariant.0 ∙ ap (λ n. sum (take n bytes)) ended ∙ ap sum (take-length bytes)

@@ -10,16 +10,19 @@ use Rattle.vex_tool.proofs.make_line.write_made.Goals.{After-write_all}
 -- the bytes that are written
 line-is : (g : given.Over) (c : After-write_all g) → c.as_bytes.result.now ≡ made c.args.count
 line-is g c =
-    c.as_bytes.ensures.value ∙ c.as_str.ensures.value ∙ c.line_of.ensures ∙ line-made c.add_up.result c.args.count c.add_up.ensures
+    c.as_bytes.ensures.value ∙ c.as_str.ensures.value ∙ c.line_of.ensures
+    ∙ line-made c.add_up.result c.args.count c.add_up.ensures
 
 pub returns : goal.returns
 returns g c =
     let written = c.in_ok-write_all.ensures in
     let flushed = c.flush.ensures in
-    Writes-handed_on _ _ _ _ _ _ _ _ (rw (line-is g (goal.at.returns g c).After-write_all) at written.appends) written.quiet flushed.keeps flushed.quiet flushed.cause
+    Writes-handed_on _ _ _ _ _ _ _ _ (rw (line-is g (goal.at.returns g c).After-write_all) at written.appends)
+    written.quiet flushed.keeps flushed.quiet flushed.cause
 
 pub returns-in_err-write_all : goal.returns-in_err-write_all
 returns-in_err-write_all g c =
     let failed = err_from_is_err_and c.from_residual.result c.from_residual.ensures.1 in
     let refused = c.in_err-write_all.ensures in
-    Writes-fault _ failed.0 _ _ _ _ _ failed.1 (rw (line-is g (goal.at.returns-in_err-write_all g c).After-write_all) at refused.front) refused.cause
+    Writes-fault _ failed.0 _ _ _ _ _ failed.1
+    (rw (line-is g (goal.at.returns-in_err-write_all g c).After-write_all) at refused.front) refused.cause

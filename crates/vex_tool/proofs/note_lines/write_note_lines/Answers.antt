@@ -15,7 +15,8 @@ returns-in_err-write_all g c =
     let note = c.in-Some.note.now in
     let at : slice_get list i ≡ Some note = sym c.in-Some.ensures.found in
     let found = found-item list i note at in
-    let front = rw (c.as_bytes.ensures.value, c.as_str.ensures.value, c.note_text_line.ensures) at c.in_err-write_all.ensures.front in
+    let front = rw (c.as_bytes.ensures.value, c.as_str.ensures.value, c.note_text_line.ensures) at
+    c.in_err-write_all.ensures.front in
     Writes-fault _ failed.0 _ _ _ _ _ failed.1
     (Wrote-fault note_line list _ (drop (i + 1) list) _ _ _ _ wrote (split-item list i note found.0 found.1) front)
     (rw wrote.quiet at c.in_err-write_all.ensures.cause)
@@ -30,7 +31,8 @@ loop-i-preserved g c =
           let at : slice_get list i ≡ Some note = sym w.in-Some.ensures.found in
           let found = found-item list i note at in
           let more = w.in_ok-write_all.ensures in
-          let written = rw (w.as_bytes.ensures.value, w.as_str.ensures.value, w.note_text_line.ensures) at more.appends in
+          let written = rw (w.as_bytes.ensures.value, w.as_str.ensures.value, w.note_text_line.ensures) at more.appends
+          in
           rw (take-item list i note found.0 found.1, w.sink-is)
           (Wrote-step note_line _ _ _ _ _ c.loop-i.invariant written more.quiet)
       | in_default w ↦

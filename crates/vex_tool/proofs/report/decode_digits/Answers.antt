@@ -5,7 +5,8 @@ use Rattle.vex_tool.proofs.report.decode_digits.Goals as goal
 use Rattle.vex_tool.proofs.report.decode_digits.Goals.{After-decode_to_slice}
 
 -- what is known once the digits were decoded
-decoded : (c : After-decode_to_slice) → IsDecoded c.args.text.now (take (length c.args.text.now / 2) c.args.bytes.now) c.decode_to_slice.new.out c.decode_to_slice.result
+decoded : (c : After-decode_to_slice) → IsDecoded c.args.text.now (take (length c.args.text.now / 2) c.args.bytes.now)
+    c.decode_to_slice.new.out c.decode_to_slice.result
 decoded c = record {
   half = length-take-le (length c.args.text.now / 2) c.args.bytes.now c.requires;
   same_len = c.decode_to_slice.auto.out;
@@ -13,7 +14,9 @@ decoded c = record {
 }
 
 pub returns-in-Ok-clause-decoded : goal.returns-in-Ok-clause-decoded
-returns-in-Ok-clause-decoded c = bytes-decoded _ _ _ _ _ _ (decoded (goal.at.returns-in-Ok-clause-decoded c).After-decode_to_slice) c.in-Ok.is
+returns-in-Ok-clause-decoded c = bytes-decoded _ _ _ _ _ _
+    (decoded (goal.at.returns-in-Ok-clause-decoded c).After-decode_to_slice) c.in-Ok.is
 
 pub returns-in-Err-clause-decoded : goal.returns-in-Err-clause-decoded
-returns-in-Err-clause-decoded c = bytes-refused _ _ _ _ _ (decoded (goal.at.returns-in-Err-clause-decoded c).After-decode_to_slice) c.in-Err.is
+returns-in-Err-clause-decoded c = bytes-refused _ _ _ _ _
+    (decoded (goal.at.returns-in-Err-clause-decoded c).After-decode_to_slice) c.in-Err.is

@@ -12,4 +12,5 @@ pub returns-in-Err : goal.returns-in-Err
 returns-in-Err c =
     c.error_text.ensures
     ∙ ap error_line c.name.ensures
-    ∙ sym (c.result_lines.ensures.error c.args.settings.now c.args.bytes.now c.in-Err.error c.in-Err.ensures.refused.0 c.in-Err.ensures.refused.1)
+    ∙ sym (c.result_lines.ensures.error c.args.settings.now c.args.bytes.now c.in-Err.error c.in-Err.ensures.refused.0
+    c.in-Err.ensures.refused.1)

@@ -5,4 +5,5 @@ pub returns : goal.returns
 returns g c =
     let each = c.in_ok-write_each.ensures in
     let end = c.write_all.ensures in
-    Writes-then _ _ _ _ _ _ _ _ _ each.appends each.quiet (record { appends = end.appends; quiet = end.quiet; front = end.front; cause = end.cause })
+    Writes-then _ _ _ _ _ _ _ _ _ each.appends each.quiet
+    (record { appends = end.appends; quiet = end.quiet; front = end.front; cause = end.cause })

@@ -5,7 +5,8 @@ use Rattle.vex_tool.proofs.spelling_lines.write_each.Given as goal
 
 abbrev pub invariant-loop-next : goal.invariant-loop-next
 invariant-loop-next g l =
-    WroteUpTo l.instruction.meaning l.next (record { text = g.K.Sink.text l.fn.sink; faults = g.K.Sink.faults l.fn.sink })
+    WroteUpTo l.instruction.meaning l.next
+    (record { text = g.K.Sink.text l.fn.sink; faults = g.K.Sink.faults l.fn.sink })
     (record { text = g.K.Sink.text l.sink; faults = g.K.Sink.faults l.sink })
 
 -- the spellings that are left

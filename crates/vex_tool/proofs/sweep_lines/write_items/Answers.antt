@@ -15,10 +15,12 @@ returns-in_err-write_all g c =
     let list = c.as_slice-list.result.now in
     let i = c.loop-item.item-index in
     let wrote = c.loop-item.invariant in
-    let front = rw (c.as_bytes.ensures.value, c.as_str.ensures.value, c.item_text.ensures) at c.in_err-write_all.ensures.front in
+    let front = rw (c.as_bytes.ensures.value, c.as_str.ensures.value, c.item_text.ensures) at
+    c.in_err-write_all.ensures.front in
     rw (← c.as_slice-list.ensures, ← seen_lines list)
     (Writes-fault _ failed.0 _ _ _ _ _ failed.1
-    (Wrote-fault seen_line list _ (drop (i + 1) list) _ _ _ _ wrote (split-item list i _ c.loop-item-test.true c.item-item.is) front)
+    (Wrote-fault seen_line list _ (drop (i + 1) list) _ _ _ _ wrote
+    (split-item list i _ c.loop-item-test.true c.item-item.is) front)
     (rw wrote.quiet at c.in_err-write_all.ensures.cause))
 
 pub loop-item-preserved : goal.loop-item-preserved
@@ -35,4 +37,5 @@ returns g c =
     let ended : i ≡ length list = omega (arith, c.loop-item-test.false, c.loop-item.auto.item-index-end) in
     let all : take i list ≡ list = ap (λ n. take n list) ended ∙ take-length list in
     let wrote = c.loop-item.invariant in
-    rw (← c.as_slice-list.ensures, ← seen_lines list) (Writes-all _ tt _ _ _ _ _ refl (rw all at wrote.written) wrote.quiet)
+    rw (← c.as_slice-list.ensures, ← seen_lines list)
+    (Writes-all _ tt _ _ _ _ _ refl (rw all at wrote.written) wrote.quiet)

@@ -5,5 +5,6 @@ use Rattle.vex_tool.proofs.sweep_lines.write_items.Given as goal
 
 abbrev pub invariant-loop-item : goal.invariant-loop-item
 invariant-loop-item g l =
-    Wrote seen_line (take l.item-index l.list) (record { text = g.K.Sink.text l.fn.sink; faults = g.K.Sink.faults l.fn.sink })
+    Wrote seen_line (take l.item-index l.list)
+    (record { text = g.K.Sink.text l.fn.sink; faults = g.K.Sink.faults l.fn.sink })
     (record { text = g.K.Sink.text l.sink; faults = g.K.Sink.faults l.sink })

@@ -5,9 +5,12 @@ use Rattle.vex_tool.proofs.sweep_lines.write_sweep.Goals as goal
 
 pub returns-in_err-write_all : goal.returns-in_err-write_all
 returns-in_err-write_all g c =
-    let stopped = err_from_is_err_and c.from_residual-in_err-write_all.result c.from_residual-in_err-write_all.ensures.1 in
+    let stopped = err_from_is_err_and c.from_residual-in_err-write_all.result
+    c.from_residual-in_err-write_all.ensures.1 in
     let found = c.in-Ok.ensures in
     let items = c.in_ok-write_items.ensures in
-    let front = rw (c.as_bytes.ensures.value, c.as_str.ensures.value, c.end_text.ensures) at c.in_err-write_all.ensures.front in
+    let front = rw (c.as_bytes.ensures.value, c.as_str.ensures.value, c.end_text.ensures) at
+    c.in_err-write_all.ensures.front in
     rw (stopped.1, stopped.2, sym found.items, sym found.end)
-    (Answers-fault _ _ _ _ _ _ (AppendsFront-then _ _ _ _ _ items.appends front) (rw items.quiet at c.in_err-write_all.ensures.cause))
+    (Answers-fault _ _ _ _ _ _ (AppendsFront-then _ _ _ _ _ items.appends front)
+    (rw items.quiet at c.in_err-write_all.ensures.cause))

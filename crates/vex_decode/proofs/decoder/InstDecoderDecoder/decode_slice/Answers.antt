@@ -2,7 +2,8 @@ use Rattle.vex_decode.proofs.Slices.{DecodesSlice, over_bytes, slice_begun, slic
 use Rattle.vex_decode.proofs.decoder.InstDecoderDecoder.decode_slice.Goals as goal
 
 all : (c : goal.After-decode) → DecodesSlice c.args.self.now c.args.bytes.now c.decode.result
-all c = over_bytes c.args.self.now c.args.bytes.now c.new-words.result c.decode.new.words c.new-words.ensures.left c.decode.result c.decode.ensures.decoded c.decode.ensures.slice
+all c = over_bytes c.args.self.now c.args.bytes.now c.new-words.result c.decode.new.words c.new-words.ensures.left
+    c.decode.result c.decode.ensures.decoded c.decode.ensures.slice
 
 pub returns-clause-begun : goal.returns-clause-begun
 returns-clause-begun c = slice_begun _ _ c.decode.result (all c)
@@ -14,10 +15,12 @@ pub returns-clause-most : goal.returns-clause-most
 returns-clause-most c = slice_ok c.args.self.now c.args.bytes.now _ c.decode.result (all c) (λ decoded is. is.most)
 
 pub returns-clause-spelled : goal.returns-clause-spelled
-returns-clause-spelled c = slice_ok c.args.self.now c.args.bytes.now _ c.decode.result (all c) (λ decoded is. is.spelled)
+returns-clause-spelled c = slice_ok c.args.self.now c.args.bytes.now _ c.decode.result (all c)
+    (λ decoded is. is.spelled)
 
 pub returns-clause-permitted : goal.returns-clause-permitted
-returns-clause-permitted c = slice_ok c.args.self.now c.args.bytes.now _ c.decode.result (all c) (λ decoded is. is.permitted)
+returns-clause-permitted c = slice_ok c.args.self.now c.args.bytes.now _ c.decode.result (all c)
+    (λ decoded is. is.permitted)
 
 pub returns-clause-refused : goal.returns-clause-refused
 returns-clause-refused c = slice_refused _ _ c.decode.result (all c)

@@ -15,8 +15,12 @@ returns c =
     record {
       is = c.shape_at.ensures;
       row = λ rules. exists_shaped choice.entry choice.w choice.l choice.memory choice.group rules
-          ∙ ap (λ shape. shape.is_row && (not shape.has_group || group_allowed choice.entry.form (chosen choice).l choice.group)) is;
-      slots = subst (λ shape. slots_in shape (chosen choice).l choice.entry.opcode ≡ slots (chosen choice)) is (slots_shaped choice.entry choice.w choice.l choice.memory choice.group);
-      vvvv = ap (λ shape. shape.vvvv) c.shape_at.ensures ∙ vvvv_shaped choice.entry choice.w choice.l choice.memory choice.group;
-      size = subst (λ shape. size_in shape.size (chosen choice) ≡ size_of (chosen choice)) is (size_shaped choice.entry choice.w choice.l choice.memory choice.group);
+          ∙ ap (λ shape. shape.is_row && (not shape.has_group || group_allowed choice.entry.form (chosen choice).l
+          choice.group)) is;
+      slots = subst (λ shape. slots_in shape (chosen choice).l choice.entry.opcode ≡ slots (chosen choice)) is
+          (slots_shaped choice.entry choice.w choice.l choice.memory choice.group);
+      vvvv = ap (λ shape. shape.vvvv) c.shape_at.ensures
+          ∙ vvvv_shaped choice.entry choice.w choice.l choice.memory choice.group;
+      size = subst (λ shape. size_in shape.size (chosen choice) ≡ size_of (chosen choice)) is
+          (size_shaped choice.entry choice.w choice.l choice.memory choice.group);
     }
