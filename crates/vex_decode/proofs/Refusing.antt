@@ -50,8 +50,10 @@ over_front : (settings : List Bool) (bytes front : List ℕ) (error : DecodeErro
     → refused settings front (leaving [] reading) ≡ Some (error, length front)
 over_front settings bytes front error n (Ok read) e =
     by (permits settings (mark_of read.0.0) (opcode_of read.0.0)) e where
-      by : (b : Bool) → ◌≡◌ {A = Option (DecodeError × ℕ)} (if b then None else Some (InvalidOpcode, taken bytes read.1))
-          (Some (error, n)) → ◌≡◌ {A = Option (DecodeError × ℕ)} (if b then None else Some (InvalidOpcode, taken front []))
+      by : (b : Bool) → ◌≡◌ {A = Option (DecodeError × ℕ)}
+          (if b then None else Some (InvalidOpcode, taken bytes read.1))
+          (Some (error, n)) → ◌≡◌ {A = Option (DecodeError × ℕ)}
+          (if b then None else Some (InvalidOpcode, taken front []))
           (Some (error, length front))
       by true h = cc
       by false h = same front (ap (λ x. x.0) (some_same h))

@@ -105,7 +105,8 @@ refused-exhausted : (settings : List Bool) (bytes : List ℕ) (n : ℕ) (step : 
     → refused settings bytes step ≡ Some (ExhaustedInput, n) → n ≡ length bytes
 refused-exhausted settings bytes n (Ok read) all e =
     by (permits settings (mark_of read.0.0) (opcode_of read.0.0)) e where
-      by : (b : Bool) → ◌≡◌ {A = Option (DecodeError × ℕ)} (if b then None else Some (InvalidOpcode, taken bytes read.1))
+      by : (b : Bool) → ◌≡◌ {A = Option (DecodeError × ℕ)}
+          (if b then None else Some (InvalidOpcode, taken bytes read.1))
           (Some (ExhaustedInput, n)) → n ≡ length bytes
       by true h = cc
       by false h = let never : InvalidOpcode ≡ ExhaustedInput = ap (λ x. x.0) (some_same h) in cc

@@ -98,7 +98,8 @@ admitted : (settings : List Bool) (bytes : List ℕ) (step : Reading (Row × Syn
     → Admits settings step
 admitted settings bytes (Ok read) e = record
     { read = read; was = refl; permitted = by (permits settings (mark_of read.0.0) (opcode_of read.0.0)) e } where
-      by : (b : Bool) → ◌≡◌ {A = Option (DecodeError × ℕ)} (if b then None else Some (InvalidOpcode, taken bytes read.1))
+      by : (b : Bool) → ◌≡◌ {A = Option (DecodeError × ℕ)}
+          (if b then None else Some (InvalidOpcode, taken bytes read.1))
           None → b ≡ true
       by true h = refl
       by false h = cc

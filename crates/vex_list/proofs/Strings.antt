@@ -71,7 +71,8 @@ to_joined tails (suc n) k first tail from below m =
         → Among (first ∷ tail) (map (λ tail. k ∷ tail) tails ++ joined tails n (k + 1))
     by (inl e) later = among-append_left (first ∷ tail) (map (λ tail. k ∷ tail) tails) (joined tails n (k + 1))
         (subst (λ j. Among (j ∷ tail) (map (λ tail. k ∷ tail) tails)) e (among-map (λ tail. k ∷ tail) tail tails m))
-    by (inr l) later = among-append_right (first ∷ tail) (map (λ tail. k ∷ tail) tails) (joined tails n (k + 1)) (later l)
+    by (inr l) later = among-append_right (first ∷ tail) (map (λ tail. k ∷ tail) tails) (joined tails n (k + 1))
+        (later l)
 
 ascending_joined : (tails : List (List ℕ)) (n k : ℕ) → Ascending tails → Ascending (joined tails n k)
 unfolding joined

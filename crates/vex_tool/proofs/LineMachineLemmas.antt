@@ -1,13 +1,15 @@
 -- The machine of the line buffer does what the lines of all bytes say, whatever a line gives.
-use Rattle.std.proofs.Common.{◌≡◌, ℕ, ◌<◌, ◌≤◌, Bool, true, false, cond, eqb, leb, List, [], ◌∷◌, ◌++◌, length, Option}
-use Rattle.std.proofs.Common.{Some, None, ◌⊎◌, inl, inr, sym, ap, ◌∙◌, subst, refl, arith}
-use Rattle.std.specs.Prelude.{IsSomeAnd}
+use Rattle.std.proofs.Common.{◌≡◌, ℕ, zero, suc, ◌+◌, ◌<◌, ◌≤◌, get_or, take, Bool, true, false, cond, eqb, leb, List}
+use Rattle.std.proofs.Common.{[], ◌∷◌, ◌++◌, length, Option, Some, None, ◌⊎◌, inl, inr, sym, ap, ◌∙◌, subst, refl}
+use Rattle.std.proofs.Common.{arith}
+use Rattle.std.specs.Prelude.{IsSomeAnd, ⊤}
 use Rattle.std.proofs.lemmas.Bool.Decides.{nat_tests}
-use Rattle.std.proofs.lemmas.List.{append-nil, append_assoc, length_push}
+use Rattle.std.proofs.lemmas.List.{append-nil, append_assoc, length-append, length_push}
 use Rattle.std.proofs.lemmas.Bool.{cases_lt}
 use Rattle.std.specs.List.{flat_map}
 use Rattle.vex_tool.specs.Lines.{lines, whole, onto_first, onto_whole}
-use Rattle.vex_tool.specs.LineMachine.{pushed, stepped, line_after, long_line, kept_report, ended_at, ended, last}
+use Rattle.vex_tool.specs.LineMachine.{appended, pushed, stepped, line_after, long_line, kept_report, ended_at, ended}
+use Rattle.vex_tool.specs.LineMachine.{last}
 
 -- ---- one piece after another
 
@@ -115,6 +117,66 @@ pushed-kept_of line b =
             (pushed-full line b full)
       ]
     ]
+
+appended-kept_of : (line bytes : List ℕ) → appended (kept_of line) bytes ≡ kept_of (line ++ bytes)
+unfolding appended
+appended-kept_of line [] = ap kept_of (sym (append-nil line))
+appended-kept_of line (b ∷ bs) =
+    ap (λ k. appended k bs) (pushed-kept_of line b) ∙ appended-kept_of (line ++ b ∷ []) bs
+    ∙ ap kept_of (append_assoc line (b ∷ []) bs)
+
+appended-some : (line bytes : List ℕ) → length line ≤ 8192 → appended (Some line) bytes ≡ kept_of (line ++ bytes)
+appended-some line bytes fits = ap (λ k. appended k bytes) (sym (kept_of-short line fits)) ∙ appended-kept_of line bytes
+
+-- bytes for which there is room
+pub appended_short : (line bytes : List ℕ) → length line + length bytes ≤ 8192
+    → appended (Some line) bytes ≡ Some (line ++ bytes)
+appended_short line bytes fits =
+    let len = length-append line bytes in
+    appended-some line bytes (omega arith) ∙ kept_of-short (line ++ bytes) (omega arith)
+
+-- bytes for which there is none
+pub appended_long : (line bytes : List ℕ) → length line ≤ 8192 → (length line + length bytes ≤ 8192 → ⊥)
+    → appended (Some line) bytes ≡ None
+appended_long line bytes fits full =
+    let len = length-append line bytes in
+    let long : 8192 < length line + length bytes =
+    elim (cases_lt 8192 (length line + length bytes)) [ inl h ↦ h | inr h ↦ absurd (full h) ] in
+    appended-some line bytes fits ∙ kept_of-long (line ++ bytes) (omega arith)
+
+pub appended_none : (bytes : List ℕ) → appended None bytes ≡ None
+unfolding appended
+appended_none [] = refl
+appended_none (b ∷ bs) = ap (λ k. appended k bs) (pushed-none b) ∙ appended_none bs
+
+-- ---- bytes that end no line
+
+pub NoEnd : List ℕ → Type 0
+NoEnd [] = ⊤
+NoEnd (b ∷ bs) = (eqb b 10 ≡ false) × NoEnd bs
+
+-- bytes before the first that ends a line
+pub NoEnd-take : (bs : List ℕ) (k : ℕ) → ((i : ℕ) → i < k → ¬ (eqb (get_or bs i 0) 10 ≡ true)) → NoEnd (take k bs)
+unfolding NoEnd
+NoEnd-take bs zero none = tt
+NoEnd-take [] (suc k) none = tt
+NoEnd-take (b ∷ bs) (suc k) none = (
+  elim (either (eqb b 10)) [ inl e ↦ absurd (none 0 (omega arith) e) | inr e ↦ e ],
+  NoEnd-take bs k (λ i below. none (suc i) (omega arith)),
+)
+
+pub line_after-inside : (kept : Option (List ℕ)) (bs : List ℕ) → NoEnd bs → line_after kept bs ≡ appended kept bs
+unfolding line_after appended NoEnd
+line_after-inside kept [] none = refl
+line_after-inside kept (b ∷ bs) none =
+    ap (λ k. line_after k bs) (stepped-inside kept b none.0) ∙ line_after-inside (pushed kept b) bs none.1
+
+-- a line end leaves an empty line
+pub line_after-line : (kept : Option (List ℕ)) (bs : List ℕ) (b : ℕ) → eqb b 10 ≡ true
+    → line_after kept (bs ++ b ∷ []) ≡ Some []
+line_after-line kept bs b at_end =
+    line_after-append kept bs (b ∷ []) ∙ line_after-one (line_after kept bs) b
+    ∙ stepped-end (line_after kept bs) b at_end
 
 -- ---- a line begun before the others
 
@@ -274,6 +336,24 @@ module _ (f : List ℕ → List ℕ) where
   ended_at-inside : (kept : Option (List ℕ)) (b : ℕ) → eqb b 10 ≡ false → ended_at f kept b ≡ []
   unfolding ended_at
   ended_at-inside kept b e = ap (λ (t : Bool). cond t (kept_report f kept) []) e
+
+  -- bytes that end no line give nothing
+  pub ended-inside : (kept : Option (List ℕ)) (bs : List ℕ) → NoEnd bs → ended f kept bs ≡ []
+  unfolding ended NoEnd
+  ended-inside kept [] none = refl
+  ended-inside kept (b ∷ bs) none =
+      ap (λ t. t ++ ended f (stepped kept b) bs) (ended_at-inside kept b none.0)
+      ∙ ended-inside (stepped kept b) bs none.1
+
+  -- bytes that end one line give what that line does
+  pub ended-line : (kept : Option (List ℕ)) (bs : List ℕ) (b : ℕ) → NoEnd bs → eqb b 10 ≡ true
+      → ended f kept (bs ++ b ∷ []) ≡ kept_report f (appended kept bs)
+  ended-line kept bs b none at_end =
+      ended-append kept bs (b ∷ [])
+      ∙ ap (λ t. t ++ ended f (line_after kept bs) (b ∷ [])) (ended-inside kept bs none)
+      ∙ ended-one (line_after kept bs) b
+      ∙ ended_at-end (line_after kept bs) b at_end
+      ∙ ap (kept_report f) (line_after-inside kept bs none)
 
   -- nothing is left, or a line
   pub last-empty : (kept : Option (List ℕ)) → kept ≡ Some [] → last f kept ≡ []

@@ -1,6 +1,6 @@
 -- The line buffer as a machine over bytes: it keeps the bytes of the unfinished line, and none of them once
 -- the line is too long. What a line gives is left open, as f. Only the private module `line_buffer` cites this, and
--- `stepped`, `kept_report` and `ended_at` only at its private functions.
+-- `kept_report` only at its private functions.
 use Rattle.std.specs.Prelude.{◌≡◌, ℕ, ◌==◌, nat_lt, List, [], ◌∷◌, ◌++◌, length, codes, Option, Some, None, IsSomeAnd}
 use Rattle.std.specs.Prelude.{if◌then◌else◌}
 use Rattle.vex_tool.specs.ErrorLine.{error_line}
@@ -9,6 +9,11 @@ use Rattle.vex_tool.specs.ErrorLine.{error_line}
 unfoldable pub pushed : Option (List ℕ) → ℕ → Option (List ℕ)
 pushed None b = None
 pushed (Some line) b = if nat_lt (length line) 8192 then Some (line ++ b ∷ []) else None
+
+-- what is kept of a line, more bytes on
+unfoldable pub appended : Option (List ℕ) → List ℕ → Option (List ℕ)
+appended kept [] = kept
+appended kept (b ∷ bs) = appended (pushed kept b) bs
 
 -- what is kept of the unfinished line, one byte on
 unfoldable pub stepped : Option (List ℕ) → ℕ → Option (List ℕ)

@@ -4,14 +4,14 @@ ghost use Rattle.std.specs.Prelude.{◌≡◌, ◌≢◌, ◌≤◌, [], ◌∷�
 ghost use Rattle.std.specs.Prelude.{option_copied};
 ghost use Rattle.vex_tool.specs.Ends.{Answers};
 ghost use Rattle.vex_tool.specs.Report.{report, MayLackMemory};
-ghost use Rattle.vex_tool.specs.LineMachine.{pushed, stepped, line_after, kept_report, ended_at, ended, last};
-ghost use Rattle.vex_tool.specs.LineMachine.{EndedBefore};
+ghost use Rattle.vex_tool.specs.LineMachine.{appended, line_after, kept_report, ended, last, EndedBefore};
 
 use crate::command::Command;
 use crate::ends::Sink;
 use crate::halt::Halt;
 use crate::report::{LineError, LineRoom, MAX_LINE, write_error, write_report};
 use arrayvec::ArrayVec;
+use memchr::memchr;
 use std::alloc::Global;
 use std::marker::Model;
 
@@ -44,14 +44,20 @@ impl LineBuffer {
         }
     }
 
-    /// Appends a byte. From byte 8,193 on the line is too long, and `line` answers `None`.
-    #[tactic(auto, unfolding(crate::specs::LineMachine::pushed))]
-    pub fn push(&mut self, byte: u8)
-        ensures { self.new ≡ pushed self.old byte }
+    /// Appends bytes. From byte 8,193 on the line is too long, and `line` answers `None`.
+    #[tactic(auto, using(crate::proofs::LineMachineLemmas::appended_short, crate::proofs::LineMachineLemmas::appended_long, crate::proofs::LineMachineLemmas::appended_none))]
+    pub fn append(&mut self, bytes: &[u8])
+        ensures { self.new ≡ appended self.old bytes.now }
     {
-        if !self.is_long {
-            self.is_long = self.kept.try_push(byte).is_err();
+        if self.is_long {
+            return;
         }
+        if MAX_LINE - self.kept.len() < bytes.len() {
+            self.is_long = true;
+            return;
+        }
+        // There is room.
+        let _ = self.kept.try_extend_from_slice(bytes);
     }
 
     /// Begins the next line.
@@ -102,26 +108,26 @@ fn answer<K: Sink>(
     }
 }
 
-// Takes a byte of the input: it ends the line, which is then answered, or is kept.
-#[tactic(auto, unfolding(crate::specs::LineMachine::stepped, crate::specs::LineMachine::ended_at))]
-fn take_byte<K: Sink>(
+// Takes the bytes before a line end, and answers the line that they complete.
+fn end_line<K: Sink>(
     alloc: Global,
     command: &Command,
     line: &mut LineBuffer,
-    byte: u8,
+    bytes: &[u8],
     room: &mut LineRoom,
     sink: &mut K,
 ) -> Result<(), Halt>
-    ensures kept { OnOk result (line.new ≡ stepped line.old byte) }
-    ensures written { Answers (λ written. (written ≡ []) × (byte ≡ 10)
-        × IsSomeAnd line.old (MayLackMemory command.now)) result
+    ensures kept { OnOk result (line.new ≡ Some []) }
+    ensures written { Answers (λ written. (written ≡ [])
+        × IsSomeAnd (appended line.old bytes.now) (MayLackMemory command.now)) result
         (K.text sink.old) (K.text sink.new) (K.faults sink.old) (K.faults sink.new)
-        (ended_at (report command.now) line.old byte) }
+        (kept_report (report command.now) (appended line.old bytes.now)) }
 {
-    if byte != LINE_END {
-        line.push(byte);
-        return Ok(());
+    if line.is_empty() && bytes.len() <= MAX_LINE {
+        // The whole line lies here, and is not copied.
+        return write_report(alloc, command, bytes, room, sink);
     }
+    line.append(bytes);
     answer(alloc, command, line, room, sink)?;
     line.clear();
     Ok(())
@@ -143,9 +149,12 @@ pub fn feed<K: Sink>(
         (K.text sink.old) (K.text sink.new) (K.faults sink.old) (K.faults sink.new)
         (ended (report command.now) line.old piece.now) }
 {
-    for &byte in piece {
-        take_byte(alloc, command, line, byte, room, sink)?;
+    let mut rest = piece;
+    while let Some(at) = memchr(LINE_END, rest) {
+        end_line(alloc, command, line, &rest[..at], room, sink)?;
+        rest = &rest[at + 1..];
     }
+    line.append(rest);
     Ok(())
 }
 
