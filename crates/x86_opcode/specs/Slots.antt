@@ -1,4 +1,5 @@
--- Where the opcode of a name stands: private functions cite this, and no public contract.
+-- Where the opcode of a name stands, by a hash. Of this crate private functions alone cite it, and no public contract;
+-- of vex_asm the definition of a text's meaning (opcode_of) does.
 pub mod Lemmas
 use Rattle.std.specs.Prelude.{ℕ, ◌+◌, ◌*◌, ◌/◌, ◌%◌, List, [], ◌∷◌, slice_index_or}
 use Rattle.x86_opcode.specs.declared.slots.TheConstants.{SHIFTS, SLOTS}
