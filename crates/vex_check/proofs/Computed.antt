@@ -34,7 +34,7 @@ use Rattle.vex_check.specs.declared.needs.RunCause.TheVariants.{Blocked}
 two_bits : firsts (run (0xC5 ∷ 0xFA ∷ 0x10 ∷ 0x07 ∷ 0xC5 ∷ 0xFA ∷ 0x58 ∷ 0x06 ∷ 0xC4 ∷ 0xE3 ∷ 0x7B ∷ 0xF0 ∷ 0xC1 ∷
     0x05 ∷ [])).items
     ≡ record { bit = avx; place = 0; opcode = Float VMOVSS } ∷ record { bit = bmi2; place = 8; opcode = Integer RORX } ∷
-      []
+    []
 unfolding firsts all_needed least swept_from first_of_bytes walk walk_form entry_of has_key table steps form_row groups
     has_groups mark_of opcode_of has_imm permits opcode_condition canon rows choices exists standard candidate shortest
     slots index_bank gathers size_of sizes v_rule gives same_meaning same_operands same_operand same_register same_bank
@@ -53,7 +53,7 @@ two_bits_in_all = refl
 -- VAESENC needs two bits, and VCVTPH2PS one besides that is needed already
 both_of_one : firsts (run (0xC4 ∷ 0xE2 ∷ 0x79 ∷ 0xDC ∷ 0xC1 ∷ 0xC4 ∷ 0xE2 ∷ 0x79 ∷ 0x13 ∷ 0xC1 ∷ [])).items
     ≡ record { bit = aesni; place = 0; opcode = Integer VAESENC } ∷
-      record { bit = avx; place = 0; opcode = Integer VAESENC }
+    record { bit = avx; place = 0; opcode = Integer VAESENC }
     ∷ record { bit = f16c; place = 5; opcode = Float VCVTPH2PS } ∷ []
 unfolding firsts all_needed least swept_from first_of_bytes walk walk_form entry_of has_key table steps form_row groups
     has_groups mark_of opcode_of has_imm permits opcode_condition canon rows choices exists standard candidate shortest
