@@ -107,12 +107,12 @@ module _ (f : List ℕ → List ℕ) (first : Option (List ℕ)) (sink : Told) (
   FedUpTo-rest next none more =
       rw (so_far.split)
       (Fed-more f first sink so_far.front line next now now rest so_far.fed (more ∙ sym (line_after-inside line rest none))
-        (rw (ended-inside f line rest none) (Appends-none now.text)) refl)
+      (rw (ended-inside f line rest none) (Appends-none now.text)) refl)
 
   -- the report of a line of the piece wasn't written
   pub FedUpTo-stopped : (P : List ℕ → Type 0) (at : ℕ) (new : Option (List ℕ)) (after : ℕ) (halt : Halt) → EndsAt rest at
       → Answers (λ written. (written ≡ []) × IsSomeAnd (appended line (take at rest)) P) (Err halt) now.text new now.faults after
-          (kept_report f (appended line (take at rest)))
+      (kept_report f (appended line (take at rest)))
       → Answers (λ written. EndedBefore f P first piece written) (Err halt) sink.text new sink.faults after (ended f first piece)
   FedUpTo-stopped P at new after halt ends h =
       let b = get_or rest at 0 in
@@ -138,7 +138,7 @@ module _ (f : List ℕ → List ℕ) (first : Option (List ℕ)) (sink : Told) (
                     ∙ ap (λ e. (so_far.front ++ take at rest) ++ e ∷ drop (at + 1) rest) (eqb-true b 10 ends.is_end);
                 line = subst (λ k. IsSomeAnd k P)
                     (sym (line_after-inside line (take at rest) ends.before) ∙ ap (λ k. line_after k (take at rest)) fed.kept
-                      ∙ sym (line_after-append first so_far.front (take at rest))) lacked.1.1;
+                    ∙ sym (line_after-append first so_far.front (take at rest))) lacked.1.1;
                 gives = sym (ended-more f first sink so_far.front line (take at rest) fed.kept
                     ∙ ap (λ t. ended f first so_far.front ++ t) (ended-inside f line (take at rest) ends.before)
                     ∙ append-nil (ended f first so_far.front));

@@ -17,6 +17,7 @@ use crate::note_lines::write_notes;
 use crate::result_line::write_result_line;
 use crate::sweep_lines::write_sweep;
 use arrayvec::ArrayVec;
+use memchr::memchr3;
 use std::alloc::Global;
 
 /// How many bytes a line has, at most.
@@ -104,6 +105,10 @@ impl LineRoom {
         ensures within { IfOk result (λ n. n ≤ MAX_CODE) }
         ensures decoded { MatchResult result (λ n. code line.now ≡ Ok (take n self.new.bytes)) (λ e. code line.now ≡ Err e) }
     {
+        if memchr3(b' ', b'\t', b'\r', line).is_none() {
+            // Without blanks the digits are decoded where they lie.
+            return decode_digits(line, &mut self.bytes);
+        }
         keep_digits(line, &mut self.digits);
         decode_digits(self.digits.as_slice(), &mut self.bytes)
     }
