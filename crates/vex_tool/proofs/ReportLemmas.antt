@@ -1,8 +1,10 @@
 -- What is written for a line, by what decoding its digits answered.
-use Rattle.std.proofs.Common.{◌≡◌, ℕ, ◌/◌, ◌<◌, ◌≤◌, Bool, true, cond, ltb, List, ◌++◌, length, take, Result, Ok, Err}
-use Rattle.std.proofs.Common.{ap, ◌∙◌, sym, refl, arith}
-use Rattle.std.specs.Prelude.{MatchResult}
+use Rattle.std.proofs.Common.{◌≡◌, ℕ, suc, ◌/◌, ◌<◌, ◌≤◌, Bool, true, false, not, cond, ltb, List, [], ◌∷◌, ◌++◌}
+use Rattle.std.proofs.Common.{get_or, Option, None, Some, length, take, Result, Ok, Err, ap, ◌∙◌, sym, refl, arith}
+use Rattle.std.specs.Prelude.{MatchResult, is_some}
+use Rattle.std.proofs.lemmas.Bool.{false_from_ne_true}
 use Rattle.std.proofs.lemmas.Bool.Decides.{nat_tests}
+use Rattle.memchr.specs.Find.{IsFirstByte, is_byte3}
 use Rattle.std.proofs.lemmas.List.{take_at}
 use Rattle.hex.specs.Hex.{decode_of, decode_sized}
 use Rattle.hex.specs.declared.error.FromHexError.{FromHexError}
@@ -10,7 +12,7 @@ use Rattle.vex_tool.specs.declared.command.Command.{Command}
 use Rattle.vex_tool.specs.declared.command.Command.TheVariants.{Recode, Sweep, Notes, Asm, Emulate, Spellings, Least}
 use Rattle.vex_tool.specs.declared.command.Command.TheVariants.{Make}
 use Rattle.vex_tool.specs.declared.report.LineError.TheVariants.{BadHex, LongLine}
-use Rattle.vex_tool.specs.Report.{report, code, code_report, digits, or_bad_hex, taken}
+use Rattle.vex_tool.specs.Report.{report, code, code_report, digits, is_blank, or_bad_hex, taken}
 use Rattle.vex_tool.proofs.LineMachineLemmas.{SameForLong}
 
 -- room for half as many bytes as there are digits is as good as any
@@ -22,6 +24,21 @@ pub code-short : (line text : List ℕ) → length line ≤ 8192 → text ≡ di
     → code line ≡ or_bad_hex (decode_of text)
 unfolding code
 code-short line text short is = rw is (grind (arith, nat_tests))
+
+-- a line without blanks is its digits
+digits-inside : (line : List ℕ) → ((i : ℕ) → i < length line → ¬ (is_blank (get_or line i 0) ≡ true))
+    → digits line ≡ line
+digits-inside [] none = refl
+digits-inside (b ∷ bs) none =
+    let inside : is_blank b ≡ false = false_from_ne_true (is_blank b) (none 0 (omega arith)) in
+    ap (λ (t : Bool). cond (not t) (b ∷ digits bs) (digits bs)) inside
+    ∙ ap (λ rest. b ∷ rest) (digits-inside bs (λ i below. none (suc i) (omega arith)))
+
+-- where a search finds no blank
+pub digits-whole : (line : List ℕ) (found : Option ℕ) → IsFirstByte (is_byte3 32 9 13) line found
+    → is_some found ≡ false → line ≡ digits line
+digits-whole line None nowhere none = sym (digits-inside line (λ i below. nowhere i (omega arith) below))
+digits-whole line (Some k) found none = cc
 
 -- what decoding answered, and left in the room that it was given
 abbrev pub Decoded : Result (List ℕ) FromHexError → Result (Unit {0}) FromHexError → List ℕ → Type 0

@@ -19,6 +19,7 @@ use crate::result_line::write_result_line;
 use crate::spelling_lines::write_spellings;
 use crate::sweep_lines::write_sweep;
 use arrayvec::ArrayVec;
+use memchr::memchr3;
 use std::alloc::Global;
 
 /// How many bytes a line has, at most.
@@ -107,6 +108,10 @@ impl<'a> LineRoom<'a> {
         ensures decoded { MatchResult result (λ n. code line.now ≡ Ok (take n self.new.bytes))
             (λ e. code line.now ≡ Err e) }
     {
+        if memchr3(b' ', b'\t', b'\r', line).is_none() {
+            // Without blanks the digits are decoded where they lie.
+            return decode_digits(line, &mut self.bytes);
+        }
         keep_digits(line, &mut self.digits);
         decode_digits(self.digits.as_slice(), &mut self.bytes)
     }
