@@ -111,7 +111,6 @@ fn decode_noting<R: Reader, S: DescriptionSink<FieldDescription>>(
         (S.state sink.old) (S.state sink.new) (made result instruction.new) }
 {
     words.mark();
-    *instruction = Instruction::default();
     read_instruction(words, sink, instruction)?;
     // At most 11.
     instruction.set_len(words.offset() as u8);

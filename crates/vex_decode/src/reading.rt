@@ -7,7 +7,7 @@ ghost use Rattle.vex_rows.specs.Row.{Among};
 ghost use Rattle.vex_rows.specs.Rules.{has_key};
 ghost use Rattle.vex_rows.specs.Table.{table};
 ghost use Rattle.vex_forms.specs.Fields.{fields_of};
-ghost use Rattle.vex_forms.specs.Operands.{blank, made};
+ghost use Rattle.vex_forms.specs.Operands.{made};
 ghost use Rattle.vex_decode.specs.Fields.{PrefixForm, C4, C5};
 ghost use Rattle.vex_decode.specs.Walk.{key_of, entry_of, found};
 ghost use Rattle.vex_decode.specs.Noting.{FollowsNoting};
@@ -111,7 +111,6 @@ fn read_from_opcode<R: Reader, S: DescriptionSink<FieldDescription>>(
 ) -> Result<(), DecodeError>
     requires within { prefix.now.vvvv < 16 }
     requires start { start < 32 }
-    requires blank { instruction.old ≡ blank }
     ensures { (form : PrefixForm) → start ≡ opcode_start form
         → FollowsNoting (noted_opcode form (fields_of prefix.now)) IsMeant
         (R.state words.old) (R.state words.new) (S.state sink.old) (S.state sink.new) (made result instruction.new) }
@@ -128,7 +127,6 @@ pub fn read_after_two<R: Reader, S: DescriptionSink<FieldDescription>>(
     sink: &mut S,
     instruction: &mut Instruction,
 ) -> Result<(), DecodeError>
-    requires { instruction.old ≡ blank }
     ensures { FollowsNoting (noted_rest C5) IsMeant
         (R.state words.old) (R.state words.new) (S.state sink.old) (S.state sink.new) (made result instruction.new) }
 {
@@ -142,7 +140,6 @@ pub fn read_after_three<R: Reader, S: DescriptionSink<FieldDescription>>(
     sink: &mut S,
     instruction: &mut Instruction,
 ) -> Result<(), DecodeError>
-    requires { instruction.old ≡ blank }
     ensures { FollowsNoting (noted_rest C4) IsMeant
         (R.state words.old) (R.state words.new) (S.state sink.old) (S.state sink.new) (made result instruction.new) }
 {
@@ -156,7 +153,6 @@ pub fn read_instruction<R: Reader, S: DescriptionSink<FieldDescription>>(
     sink: &mut S,
     instruction: &mut Instruction,
 ) -> Result<(), DecodeError>
-    requires { instruction.old ≡ blank }
     ensures { FollowsNoting noted_walk IsMeant
         (R.state words.old) (R.state words.new) (S.state sink.old) (S.state sink.new) (made result instruction.new) }
 {

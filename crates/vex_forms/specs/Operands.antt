@@ -1,7 +1,6 @@
 -- The numbers that the bytes of an instruction name its operands by, as the code holds them.
-use Rattle.std.specs.Prelude.{◌≡◌, ◌<◌, ℕ, Bool, true, false, List, [], ◌∷◌, ◌++◌, length, None, Result, Ok, Err}
+use Rattle.std.specs.Prelude.{◌≡◌, ◌<◌, ℕ, Bool, true, false, List, [], ◌∷◌, ◌++◌, length, Result, Ok, Err}
 use Rattle.std.specs.List.{list_all}
-use Rattle.x86_opcode.specs.declared.Opcode.TheVariants.{Invalid}
 use Rattle.x86_operand.specs.declared.error.DecodeError.{DecodeError}
 use Rattle.x86_operand.specs.declared.register.RegisterBank.{RegisterBank}
 use Rattle.x86_operand.specs.declared.register.RegisterBank.TheVariants.{Q, RIP}
@@ -53,10 +52,6 @@ with_operand old m = record old { meaning = record old.meaning { operands = old.
 -- the operand was added to the instruction, where there was room for it
 abbrev pub Adds : OperandMeaning → Decoded → Decoded → Type 0
 Adds m old new = length old.meaning.operands < 4 → new ≡ with_operand old m
-
--- an instruction that nothing was written to: no mark, the opcode `Invalid`, no operands, no size, length 0
-abbrev pub blank : Decoded
-blank = record { meaning = record { evex = false; opcode = Invalid; operands = []; size = None }; len = 0 }
 
 -- what a call has made that writes an instruction: the instruction, or an error
 abbrev pub made : Result (Unit {0}) DecodeError → Decoded → Result Decoded DecodeError

@@ -5,7 +5,7 @@ ghost use Rattle.x86_address.specs.Bytes.{bit};
 ghost use Rattle.vex_rows.specs.Row.{Row};
 ghost use Rattle.vex_forms.specs.Gives.{gives, slot_operand};
 ghost use Rattle.vex_forms.specs.Layout.{IsLayout, chosen};
-ghost use Rattle.vex_forms.specs.Operands.{blank, has_sixteen, slots_fit, target_seen};
+ghost use Rattle.vex_forms.specs.Operands.{has_sixteen, slots_fit, target_seen};
 
 use crate::choice::Choice;
 use crate::operand_fields::OperandFields;
@@ -14,8 +14,8 @@ use crate::row_layout::RowLayout;
 use crate::slot::Slot;
 use x86_operand::{Instruction, MemoryAccessSize, Opcode, RegisterBank};
 
-/// Writes the opcode, the memory size and an operand for each of at most four slots in order. It writes in place, since
-/// an instruction is copied at each return.
+/// Writes the opcode, the memory size and an operand for each of at most four slots in order, whatever the instruction
+/// held. It writes in place, since an instruction is copied at each return.
 #[inline(always)]
 fn write_parts(
     opcode: Opcode,
@@ -25,8 +25,7 @@ fn write_parts(
     fields: &OperandFields,
     instruction: &mut Instruction,
 )
-    requires few { length slots.now ≤ 4 }
-    requires blank { instruction.old ≡ blank }
+    requires { length slots.now ≤ 4 }
     ensures meaning { slots_fit slots.now ≡ true → has_sixteen index_bank ≡ true → instruction.new.meaning
         ≡ record {
           evex = false;
@@ -37,7 +36,7 @@ fn write_parts(
         } }
     ensures length { instruction.new.len ≡ 0 }
 {
-    instruction.set_opcode(opcode);
+    *instruction = Instruction::of(opcode, false);
     instruction.set_mem_size(mem_size);
     for slot in slots {
         add_operand(*slot, index_bank, fields, instruction);
@@ -66,7 +65,6 @@ pub fn instruction_of(layout: &RowLayout, fields: &OperandFields) -> Instruction
 impl Choice {
     /// Writes the instruction that the row means with these numbers, as `instruction_of` makes it of the row's layout.
     pub fn write_instruction(&self, fields: &OperandFields, instruction: &mut Instruction)
-        requires { instruction.old ≡ blank }
         ensures meaning { instruction.new.meaning
             ≡ gives (chosen self.now) (bit fields.now.r) fields.now.vvvv fields.now.reg (target_seen fields.now.e)
             fields.now.imm }

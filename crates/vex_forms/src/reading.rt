@@ -10,7 +10,7 @@ ghost use Rattle.vex_rows.specs.Row.{Among, is_memory};
 ghost use Rattle.vex_rows.specs.Table.{table};
 ghost use Rattle.vex_forms.specs.Fields.{fields_of};
 ghost use Rattle.vex_forms.specs.FormWalk.{place_by, take_imm, walk_alone, walk_form, walk_modrm};
-ghost use Rattle.vex_forms.specs.Operands.{blank, made};
+ghost use Rattle.vex_forms.specs.Operands.{made};
 ghost use Rattle.vex_forms.specs.Reads.{FailsForm, HasPrefix, IsInstruction, IsOperandE, IsOperands, TakesForm};
 ghost use Rattle.vex_forms.specs.Reads.{kind_of_e, kind_seen};
 
@@ -146,8 +146,8 @@ fn is_memory(e: OperandE) -> bool
     matches!(e, OperandE::Memory(_))
 }
 
-/// Does the steps of an entry's form as `read_form` does, and writes the instruction that they mean to one that nothing
-/// was written to.
+/// Does the steps of an entry's form as `read_form` does, and writes the instruction that they mean, whatever the
+/// caller's held.
 pub fn read_form_into<R: Reader>(
     entry: &Entry,
     prefix: &Prefix,
@@ -156,7 +156,6 @@ pub fn read_form_into<R: Reader>(
 ) -> Result<(), DecodeError>
     requires prefix { HasPrefix entry.now (fields_of prefix.now) }
     requires vvvv { prefix.now.vvvv < 16 }
-    requires blank { instruction.old ≡ blank }
     ensures { Follows (walk_form entry.now (fields_of prefix.now)) (IsInstruction entry.now (fields_of prefix.now))
         (R.state words.old) (R.state words.new) (made result instruction.new) }
 {

@@ -10,5 +10,5 @@ loop-slot-preserved c = (
   λ fit index. meaning_more _ c.args.slots.now c.loop-slot.slot-index _ _ _ _ _
       (c.add_operand.ensures.added (slot_fits_at c.args.slots.now c.loop-slot.slot-index _ fit c.loop-slot-test.true)
       index)
-      c.requires.few c.loop-slot-test.true (search rules) (c.loop-slot.invariant.1 fit index),
+      c.requires c.loop-slot-test.true (search rules) (c.loop-slot.invariant.1 fit index),
 )
