@@ -1,6 +1,6 @@
 -- Rows that a meaning excludes at once have no standard bytes of it.
-use Rattle.std.specs.Prelude.{◌≡◌, refl, ℕ, ◌<◌, ◌≤◌, length, nat_le, Bool, true, false, ◌&&◌, ◌==◌, List, [], ◌∷◌}
-use Rattle.std.specs.Prelude.{◌++◌, map, flat_map, Option, Some, None, if◌then◌else◌}
+use Rattle.std.specs.Prelude.{◌≡◌, refl, ℕ, ◌<◌, length, Bool, true, false, ◌&&◌, ◌==◌, List, [], ◌∷◌, ◌++◌, flat_map}
+use Rattle.std.specs.Prelude.{Option, Some, None, if◌then◌else◌}
 use Rattle.std.specs.List.{list_all, list_any}
 use Rattle.std.proofs.Common.{get_or, sym, ap, ◌∙◌, subst, eqb-true, arith, inl, inr}
 use Rattle.x86_opcode.specs.declared.Opcode.{Opcode}
@@ -31,7 +31,7 @@ use Rattle.vex_forms.specs.declared.slot.Slot.TheVariants as slot
 use Rattle.vex_forms.specs.Slots.{bank_at, bytes_at, slots, slots_at, size_at, size_of, index_bank}
 use Rattle.vex_forms.specs.Gives.{gives}
 use Rattle.vex_forms.specs.Layout.{kind_for, row_for}
-use Rattle.vex_encode.specs.Conditions.{CanGive, OperandFits, OperandsFit, PlacedFits, RegisterFits}
+use Rattle.vex_encode.specs.Conditions.{CanGive, OperandFits, OperandsFit, PlacedFits}
 use Rattle.vex_encode.specs.Standard.{standard}
 use Rattle.vex_encode.specs.Encode.{standard_of, first, is_address}
 use Rattle.vex_encode.specs.Assembly.{IsRegisterOf}
