@@ -17,13 +17,15 @@ use Rattle.vex_rows.specs.declared.steps.Check.{Check}
 use Rattle.vex_rows.specs.declared.steps.Check.TheVariants.{V0, L0, Reg, Mem, Group, VifMem}
 use Rattle.vex_rows.specs.FormRows.{form_row, gathers}
 use Rattle.vex_rows.specs.Steps.{steps}
-use Rattle.vex_rows.specs.Row.{Row, exists, group_allowed, has_groups, permits_choice, row_at}
+use Rattle.vex_rows.specs.Few.{items}
+use Rattle.vex_rows.specs.Groups.{groups}
+use Rattle.vex_rows.specs.Row.{Row, exists, group_allowed, has_groups, is_group, permits_choice, row_at}
 use Rattle.vex_rows.specs.Row.Lemmas.{checks_of}
 use Rattle.vex_forms.specs.declared.shape.BanksByOpcode.{BanksByOpcode}
 use Rattle.vex_forms.specs.declared.shape.BanksByOpcode.TheVariants.{Fixed, Element, Gather}
 use Rattle.vex_forms.specs.declared.slot.Slot.{Slot}
 use Rattle.vex_forms.specs.declared.shape.RowShape.{RowShape}
-use Rattle.vex_forms.specs.Layout.{kind_for, may_be, rules_allow}
+use Rattle.vex_forms.specs.Layout.{group_for, kind_for, may_be, row_for, rules_allow}
 use Rattle.vex_forms.specs.Shapes.{shape_of, size_in, four_slots, slots_by, slots_in, slots_seen, with_bank, with_e_in}
 use Rattle.vex_forms.specs.Slots.{element_bank, gather_bank, general, size_of, slots, v_rule, vector}
 use Rattle.vex_forms.proofs.Choices.{exists_by_checks}
@@ -232,3 +234,23 @@ entry_with form = record { map = Map0F; pp = Plain; byte = 0; w = Any; l = Any; 
 pub group_shaped : (form : Form) (w l memory : Bool) → (shape_of form w l memory).has_group ≡ has_groups form
 unfolding entry_with
 group_shaped form w l memory = (is_shape (entry_with form) w l memory None).group
+
+-- whether the row of a reg field is there
+pub row_shaped : (entry : Entry) (w l memory : Bool) (group : ℕ) → rules_allow entry w l ≡ true
+    → (may_be entry memory && exists (row_for entry w l memory group))
+    ≡ ((shape_of entry.form w l memory).is_row
+    && (not (shape_of entry.form w l memory).has_group || is_group (items (form_row entry.form).groups) group))
+unfolding groups
+row_shaped entry w l memory group h =
+    exists_shaped entry w l memory (group_for entry.form group) h
+    ∙ by (has_groups entry.form) (shape_of entry.form w l memory).has_group (group_shaped entry.form w l memory)
+  where
+    by : (has shown : Bool) → shown ≡ has
+        → ((shape_of entry.form w l memory).is_row
+        && (not shown || group_allowed entry.form (if l then 1 else 0) (if has then Some group else None)))
+        ≡ ((shape_of entry.form w l memory).is_row && (not shown || is_group (items (form_row entry.form).groups) group))
+    by true shown e = refl
+    by false shown e = ap (λ b. (shape_of entry.form w l memory).is_row
+        && (not b || group_allowed entry.form (if l then 1 else 0) None)) e
+        ∙ sym (ap (λ b. (shape_of entry.form w l memory).is_row
+        && (not b || is_group (items (form_row entry.form).groups) group)) e)

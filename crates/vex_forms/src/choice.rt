@@ -1,11 +1,11 @@
 //! A choice of a row: an entry at one W, one L, one kind of the operand E, and one reg field.
 
-ghost use Rattle.std.specs.Prelude.{◌≡◌, ◌&&◌, ◌||◌, not, true};
+ghost use Rattle.std.specs.Prelude.{◌≡◌, ◌&&◌, true};
 ghost use Rattle.x86_operand.specs.Kind.{is_vector};
 ghost use Rattle.vex_rows.specs.FormRows.{form_row, gathers};
 ghost use Rattle.vex_rows.specs.Steps.{steps, steps_seen};
 ghost use Rattle.vex_rows.specs.Groups.{groups};
-ghost use Rattle.vex_rows.specs.Row.{exists, group_allowed, group_opcode, has_groups, has_imm, is_memory, is_memory_of};
+ghost use Rattle.vex_rows.specs.Row.{exists, group_opcode, has_groups, has_imm, is_memory, is_memory_of};
 ghost use Rattle.vex_rows.specs.Row.{opcode_of};
 ghost use Rattle.vex_forms.specs.Layout.{chosen, may_be, row_for, rules_allow};
 ghost use Rattle.vex_forms.specs.Shapes.{shape_of, size_in, slots_in};
@@ -43,6 +43,18 @@ fn has_group(form: Form, w: bool, l: bool, memory: bool) -> bool
     ensures { result ≡ has_groups form }
 {
     shape_at(form, w, l, memory).has_group
+}
+
+/// Whether an entry has a row at that W, L, place of the operand E and reg field, where its rules allow W and L: the
+/// operand E can be there, and no check refuses it. A refusal makes no `Choice`, so that it costs little.
+#[inline(always)]
+#[tactic(auto, using(crate::proofs::Shaping::row_shaped))]
+pub fn is_row(entry: &Entry, w: bool, l: bool, memory: bool, group: u8) -> bool
+    requires { rules_allow entry.now w l ≡ true }
+    ensures { result ≡ (may_be entry.now memory && exists (row_for entry.now w l memory group)) }
+{
+    let shape = shape_at(entry.form, w, l, memory);
+    shape.is_row && (!shape.has_group || row_of_form(entry.form).is_group(group))
 }
 
 impl Choice {
@@ -108,37 +120,11 @@ impl Choice {
     #[inline(always)]
     pub fn shape(&self) -> &'static RowShape
         ensures is { result.now ≡ shape_of self.now.entry.form self.now.w self.now.l self.now.memory }
-        ensures row { rules_allow self.now.entry self.now.w self.now.l ≡ true
-            → (may_be self.now.entry self.now.memory && exists (chosen self.now))
-            ≡ (result.now.is_row && (not result.now.has_group || group_allowed self.now.entry.form (chosen self.now).l
-            self.now.group)) }
         ensures slots { slots_in result.now (chosen self.now).l self.now.entry.opcode ≡ slots (chosen self.now) }
         ensures vvvv { result.now.vvvv ≡ v_rule (chosen self.now) }
         ensures size { size_in result.now.size (chosen self.now) ≡ size_of (chosen self.now) }
     {
         shape_at(self.entry.form, self.w, self.l, self.memory)
-    }
-
-    /// Whether the reg field is one of the form's groups, where the choice has one.
-    #[tactic(auto, unfolding(vex_rows::specs::Groups::groups))]
-    #[inline(always)]
-    fn is_of_group(&self) -> bool
-        ensures { result ≡ group_allowed self.now.entry.form (chosen self.now).l self.now.group }
-    {
-        match self.group {
-            None => true,
-            Some(reg) => self.form_row().is_group(reg),
-        }
-    }
-
-    /// Whether the choice is a row, where the entry's rules allow its W and L: it is possible, and no check refuses it.
-    #[inline(always)]
-    pub fn is_row(&self) -> bool
-        requires { rules_allow self.now.entry self.now.w self.now.l ≡ true }
-        ensures { result ≡ (may_be self.now.entry self.now.memory && exists (chosen self.now)) }
-    {
-        let shape = self.shape();
-        shape.is_row && (!shape.has_group || self.is_of_group())
     }
 
     /// The opcode of the row's group, the one that the entry announces where it has no group.

@@ -4,7 +4,7 @@ ghost use Rattle.std.specs.Prelude.{◌↔◌, ◌&&◌, IsSome, IfSome, IsTrue}
 ghost use Rattle.vex_rows.specs.Row.{exists};
 ghost use Rattle.vex_forms.specs.Layout.{IsLayout, chosen, may_be, row_for};
 
-use crate::choice::{Choice, rules_allow};
+use crate::choice::{Choice, is_row, rules_allow};
 use crate::slot::{Slot, VvvvRule};
 use arrayvec::ArrayVec;
 use vex_rows::Entry;
@@ -44,14 +44,10 @@ pub fn layout(entry: &Entry, w: bool, l: bool, memory: bool, group: u8) -> Optio
     ensures exists { IsSome result ↔ IsTrue (may_be entry.now memory && exists (row_for entry.now w l memory group)) }
     ensures row { IfSome result (IsLayout (row_for entry.now w l memory group)) }
 {
-    if !rules_allow(entry, w, l) {
+    if !rules_allow(entry, w, l) || !is_row(entry, w, l, memory, group) {
         return None;
     }
-    let choice = Choice::of(entry, w, l, memory, group);
-    if !choice.is_row() {
-        return None;
-    }
-    choice.row_layout()
+    Choice::of(entry, w, l, memory, group).row_layout()
 }
 
 impl Choice {

@@ -1,11 +1,10 @@
 -- The shape is that of the row.
-use Rattle.std.specs.Prelude.{◌≡◌, ◌&&◌, ◌||◌, not}
+use Rattle.std.specs.Prelude.{◌≡◌}
 use Rattle.std.proofs.Common.{ap, subst, sym, ◌∙◌}
-use Rattle.vex_rows.specs.Row.{group_allowed}
 use Rattle.vex_forms.specs.Layout.{chosen}
 use Rattle.vex_forms.specs.Shapes.{size_in, slots_in}
 use Rattle.vex_forms.specs.Slots.{size_of, slots}
-use Rattle.vex_forms.proofs.Shaping.{slots_shaped, vvvv_shaped, size_shaped, exists_shaped}
+use Rattle.vex_forms.proofs.Shaping.{slots_shaped, vvvv_shaped, size_shaped}
 use Rattle.vex_forms.proofs.choice.Choice.shape.Goals as goal
 
 pub returns : goal.returns
@@ -14,9 +13,6 @@ returns c =
     let is = sym c.shape_at.ensures in
     record {
       is = c.shape_at.ensures;
-      row = λ rules. exists_shaped choice.entry choice.w choice.l choice.memory choice.group rules
-          ∙ ap (λ shape. shape.is_row && (not shape.has_group || group_allowed choice.entry.form (chosen choice).l
-          choice.group)) is;
       slots = subst (λ shape. slots_in shape (chosen choice).l choice.entry.opcode ≡ slots (chosen choice)) is
           (slots_shaped choice.entry choice.w choice.l choice.memory choice.group);
       vvvv = ap (λ shape. shape.vvvv) c.shape_at.ensures
