@@ -161,7 +161,7 @@ fn write_code_report<K: Sink>(
             Ok(())
         }
         Command::Emulate(settings) => {
-            write_emulated(settings, bytes, machine, sink)?;
+            write_emulated(settings, bytes, machine, text, sink)?;
             Ok(())
         }
         Command::Spellings(settings) => {
@@ -169,7 +169,7 @@ fn write_code_report<K: Sink>(
             Ok(())
         }
         Command::Least => {
-            write_least(bytes, sink)?;
+            write_least(bytes, text, sink)?;
             Ok(())
         }
         // It reads no lines.
