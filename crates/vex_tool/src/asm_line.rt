@@ -26,29 +26,29 @@ fn is_permitted(settings: &InstDecoder, instruction: &Instruction) -> bool
     }
 }
 
-// The line of canonical bytes, whose opcode is permitted or not.
-fn permitted_text(permitted: bool, spelling: &Spelling) -> LineText
-    ensures { result.bytes ≡ bytes_line permitted (Some spelling.now) }
+// Makes the text the line of canonical bytes, whose opcode is permitted or not.
+fn permitted_text(text: &mut LineText, permitted: bool, spelling: &Spelling)
+    ensures { text.new.bytes ≡ bytes_line permitted (Some spelling.now) }
 {
     if permitted {
-        bytes_text(spelling)
+        bytes_text(text, spelling);
     } else {
-        error_text(DecodeError::InvalidOpcode.name())
+        error_text(text, DecodeError::InvalidOpcode.name());
     }
 }
 
-// The line of a text under settings.
-fn asm_text(settings: &InstDecoder, line: &[u8]) -> LineText
-    ensures { result.bytes ≡ asm_line settings.now line.now }
+// Makes the text the line of a text under settings.
+fn asm_text(text: &mut LineText, settings: &InstDecoder, line: &[u8])
+    ensures { text.new.bytes ≡ asm_line settings.now line.now }
 {
     // The laws of assembled lines and of canonical bytes.
     assembled_lines();
     recode_again();
     match assemble_instruction(line) {
         Ok((instruction, spelling)) => {
-            permitted_text(is_permitted(settings, &instruction), &spelling)
+            permitted_text(text, is_permitted(settings, &instruction), &spelling);
         }
-        Err(error) => error_text(error.name()),
+        Err(error) => error_text(text, error.name()),
     }
 }
 
@@ -57,10 +57,12 @@ fn asm_text(settings: &InstDecoder, line: &[u8]) -> LineText
 pub fn write_asm_line<K: Sink>(
     settings: &InstDecoder,
     line: &[u8],
+    text: &mut LineText,
     sink: &mut K,
 ) -> Result<(), Failed>
     ensures { Writes result (K.text sink.old) (K.text sink.new) (K.faults sink.old) (K.faults sink.new)
         (asm_line settings.now line.now) }
 {
-    sink.write_all(asm_text(settings, line).as_str().as_bytes())
+    asm_text(text, settings, line);
+    sink.write_all(text.as_str().as_bytes())
 }

@@ -90,19 +90,18 @@ impl<'a> LineMachine<'a> {
     }
 }
 
-// The line of some bytes: a letter and a number, which name them, and the bytes in hex digits.
-fn changed_text(letter: &str, number: usize, bytes: &[u8]) -> LineText
+// Makes the text the line of some bytes: a letter and a number, which name them, and the bytes in hex digits.
+fn changed_text(text: &mut LineText, letter: &str, number: usize, bytes: &[u8])
     requires letter { length letter.now ≤ 1 }
     requires bytes { length bytes.now ≤ 32 }
-    ensures { result.bytes ≡ letter.now ++ decimal number ++ codes " " ++ encode_lower bytes.now ++ codes "\n" }
+    ensures { text.new.bytes ≡ letter.now ++ decimal number ++ codes " " ++ encode_lower bytes.now ++ codes "\n" }
 {
-    let mut text = LineText::new();
+    text.clear();
     text.push_str(letter);
-    append_number(&mut text, number);
+    append_number(text, number);
     text.push_str(" ");
-    push_hex(&mut text, bytes);
+    push_hex(text, bytes);
     text.push_str("\n");
-    text
 }
 
 // Writes the line of some bytes, in one write, unless they are still those of the start.
@@ -111,6 +110,7 @@ fn write_changed<K: Sink>(
     number: usize,
     bytes: &[u8],
     first: &[u8],
+    text: &mut LineText,
     sink: &mut K,
 ) -> Result<(), Failed>
     requires letter { length letter.now ≤ 1 }
@@ -121,18 +121,23 @@ fn write_changed<K: Sink>(
     if bytes == first {
         return Ok(());
     }
-    sink.write_all(changed_text(letter, number, bytes).as_str().as_bytes())
+    changed_text(text, letter, number, bytes);
+    sink.write_all(text.as_str().as_bytes())
 }
 
 // Writes the lines of the vectors that changed.
-fn write_vectors<K: Sink>(machine: &Machine<'_>, sink: &mut K) -> Result<(), Failed>
+fn write_vectors<K: Sink>(
+    machine: &Machine<'_>,
+    text: &mut LineText,
+    sink: &mut K,
+) -> Result<(), Failed>
     ensures { Writes result (K.text sink.old) (K.text sink.new) (K.faults sink.old) (K.faults sink.new)
         (vector_lines machine.now.vectors) }
 {
     for i in 0..16 {
         let number = usize::from(i);
         let start = block_from(16 * number);
-        write_changed("y", number, machine.vector(i), &start, sink)?;
+        write_changed("y", number, machine.vector(i), &start, text, sink)?;
     }
     Ok(())
 }
@@ -147,7 +152,7 @@ fn block_at(memory: &[u8], place: usize) -> &[u8]
 }
 
 // Writes the lines of the blocks of the memory that changed.
-fn write_blocks<K: Sink>(memory: &[u8], sink: &mut K) -> Result<(), Failed>
+fn write_blocks<K: Sink>(memory: &[u8], text: &mut LineText, sink: &mut K) -> Result<(), Failed>
     requires { length memory.now ≡ 1024 }
     ensures { Writes result (K.text sink.old) (K.text sink.new) (K.faults sink.old) (K.faults sink.new)
         (block_lines memory.now) }
@@ -155,30 +160,29 @@ fn write_blocks<K: Sink>(memory: &[u8], sink: &mut K) -> Result<(), Failed>
     for b in 0..32 {
         let place = BLOCK * b;
         let start = block_from(place);
-        write_changed("m", place, block_at(memory, place), &start, sink)?;
+        write_changed("m", place, block_at(memory, place), &start, text, sink)?;
     }
     Ok(())
 }
 
-// The line of the end of a run.
-fn ran_text(answer: &Result<usize, Halt>) -> LineText
-    ensures { result.bytes ≡ ran_line answer.now }
+// Makes the text the line of the end of a run.
+fn ran_text(text: &mut LineText, answer: &Result<usize, Halt>)
+    ensures { text.new.bytes ≡ ran_line answer.now }
 {
-    let mut text = LineText::new();
+    text.clear();
     match answer {
         Ok(count) => {
             text.push_str("end ");
-            append_number(&mut text, *count);
+            append_number(text, *count);
         }
         Err(halt) => {
             text.push_str("stopped ");
-            append_number(&mut text, halt.place);
+            append_number(text, halt.place);
             text.push_str(" ");
             text.push_str(halt.cause.name());
         }
     }
     text.push_str("\n");
-    text
 }
 
 /// Runs the code under settings from the start of the machine, and writes a line for each vector and each block of the
@@ -187,13 +191,15 @@ pub fn write_emulated<K: Sink>(
     settings: &InstDecoder,
     code: &[u8],
     machine: &mut LineMachine<'_>,
+    text: &mut LineText,
     sink: &mut K,
 ) -> Result<(), Failed>
     ensures { Writes result (K.text sink.old) (K.text sink.new) (K.faults sink.old) (K.faults sink.new)
         (emulate_lines settings.now code.now) }
 {
     let answer = machine.run(settings, code);
-    write_vectors(&machine.machine, sink)?;
-    write_blocks(machine.machine.memory(), sink)?;
-    sink.write_all(ran_text(&answer).as_str().as_bytes())
+    write_vectors(&machine.machine, text, sink)?;
+    write_blocks(machine.machine.memory(), text, sink)?;
+    ran_text(text, &answer);
+    sink.write_all(text.as_str().as_bytes())
 }

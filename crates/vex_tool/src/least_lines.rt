@@ -31,19 +31,18 @@ fn bit_name(bit: u8) -> &'static str
     }
 }
 
-/// The line of the first instruction that needs a bit: the bit's name, the place and the opcode.
-fn need_text(first: &First) -> LineText
-    ensures { result.bytes ≡ need_line first.now }
+/// Makes the text the line of the first instruction that needs a bit: the bit's name, the place and the opcode.
+fn need_text(text: &mut LineText, first: &First)
+    ensures { text.new.bytes ≡ need_line first.now }
 {
-    let mut text = LineText::new();
+    text.clear();
     text.push_str("need ");
     text.push_str(bit_name(first.bit));
     text.push_str(" ");
-    append_number(&mut text, first.place);
+    append_number(text, first.place);
     text.push_str(" ");
-    append_name(&mut text, first.opcode);
+    append_name(text, first.opcode);
     text.push_str("\n");
-    text
 }
 
 /// The name of the cause of a fault.
@@ -57,17 +56,16 @@ fn cause_name(cause: RunCause) -> &'static str
     }
 }
 
-/// The line of a fault: its place and its cause.
-fn fault_text(fault: &RunFault) -> LineText
-    ensures { result.bytes ≡ fault_line fault.now }
+/// Makes the text the line of a fault: its place and its cause.
+fn fault_text(text: &mut LineText, fault: &RunFault)
+    ensures { text.new.bytes ≡ fault_line fault.now }
 {
-    let mut text = LineText::new();
+    text.clear();
     text.push_str("stopped ");
-    append_number(&mut text, fault.place);
+    append_number(text, fault.place);
     text.push_str(" ");
     text.push_str(cause_name(fault.cause));
     text.push_str("\n");
-    text
 }
 
 /// Whether the profile of that name has every bit that a run needs.
@@ -120,27 +118,31 @@ fn write_profiles<K: Sink>(needs: &Needs, sink: &mut K) -> Result<(), Failed>
 }
 
 /// Writes a line for each bit that is needed, in one write each.
-fn write_firsts<K: Sink>(firsts: &[First], sink: &mut K) -> Result<(), Failed>
+fn write_firsts<K: Sink>(firsts: &[First], text: &mut LineText, sink: &mut K) -> Result<(), Failed>
     ensures { Writes result (K.text sink.old) (K.text sink.new) (K.faults sink.old) (K.faults sink.new)
         (flat_map need_line firsts.now) }
 {
     for first in firsts {
-        sink.write_all(need_text(first).as_str().as_bytes())?;
+        need_text(text, first);
+        sink.write_all(text.as_str().as_bytes())?;
     }
     Ok(())
 }
 
 /// Writes what the run of instructions that these bytes are needs, a line for each bit and one for the profiles that
 /// have them all, or the line of its fault, in one write each. `Failed` where a write of the sink fails.
-pub fn write_least<K: Sink>(bytes: &[u8], sink: &mut K) -> Result<(), Failed>
+pub fn write_least<K: Sink>(bytes: &[u8], text: &mut LineText, sink: &mut K) -> Result<(), Failed>
     ensures { Writes result (K.text sink.old) (K.text sink.new) (K.faults sink.old) (K.faults sink.new)
         (least_lines bytes.now) }
 {
     match check(bytes) {
         Ok(needs) => {
-            write_firsts(needs.firsts.as_slice(), sink)?;
+            write_firsts(needs.firsts.as_slice(), text, sink)?;
             write_profiles(&needs, sink)
         }
-        Err(fault) => sink.write_all(fault_text(&fault).as_str().as_bytes()),
+        Err(fault) => {
+            fault_text(text, &fault);
+            sink.write_all(text.as_str().as_bytes())
+        }
     }
 }

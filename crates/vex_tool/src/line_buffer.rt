@@ -102,7 +102,7 @@ fn answer<K: Sink>(
     match line.line() {
         Some(bytes) => write_report(alloc, command, bytes, room, sink),
         None => {
-            write_error(LineError::LongLine, sink)?;
+            write_error(LineError::LongLine, room, sink)?;
             Ok(())
         }
     }

@@ -59,52 +59,48 @@ fn push_instruction(text: &mut LineText, instruction: &Instruction, spelling: &S
     text.push_str("\n");
 }
 
-/// The result line of an instruction and its canonical bytes, its line end included.
-pub fn instruction_text(instruction: &Instruction, spelling: &Spelling) -> LineText
-    ensures { result.bytes ≡ instruction_line instruction.now.len instruction.now.meaning spelling.now }
+/// Makes the text the result line of an instruction and its canonical bytes, its line end included.
+pub fn instruction_text(text: &mut LineText, instruction: &Instruction, spelling: &Spelling)
+    ensures { text.new.bytes ≡ instruction_line instruction.now.len instruction.now.meaning spelling.now }
 {
-    let mut text = LineText::new();
-    push_instruction(&mut text, instruction, spelling);
-    text
+    text.clear();
+    push_instruction(text, instruction, spelling);
 }
 
-/// The line of a spelling: its bytes in hex digits and a line end.
-pub fn bytes_text(spelling: &Spelling) -> LineText
-    ensures { result.bytes ≡ encode_lower spelling.now ++ codes "\n" }
+/// Makes the text the line of a spelling: its bytes in hex digits and a line end.
+pub fn bytes_text(text: &mut LineText, spelling: &Spelling)
+    ensures { text.new.bytes ≡ encode_lower spelling.now ++ codes "\n" }
 {
-    let mut text = LineText::new();
-    push_hex(&mut text, spelling.as_slice());
+    text.clear();
+    push_hex(text, spelling.as_slice());
     text.push_str("\n");
-    text
 }
 
-/// The line of an instruction of a sweep: its place, a space and its result line.
-pub fn item_text(item: &SweepItem<'_>) -> LineText
-    ensures { result.bytes ≡ item_line (item_seen item.now) }
+/// Makes the text the line of an instruction of a sweep: its place, a space and its result line.
+pub fn item_text(text: &mut LineText, item: &SweepItem<'_>)
+    ensures { text.new.bytes ≡ item_line (item_seen item.now) }
 {
-    let mut text = LineText::new();
-    append_number(&mut text, item.place);
+    text.clear();
+    append_number(text, item.place);
     text.push_str(" ");
-    push_instruction(&mut text, &item.instruction, &item.spelling);
-    text
+    push_instruction(text, &item.instruction, &item.spelling);
 }
 
-/// The line of the end of a sweep: `end`, or `stopped`, the place and the error's name.
-pub fn end_text(end: &SweepEnd) -> LineText
-    ensures { result.bytes ≡ end_line end.now }
+/// Makes the text the line of the end of a sweep: `end`, or `stopped`, the place and the error's name.
+pub fn end_text(text: &mut LineText, end: &SweepEnd)
+    ensures { text.new.bytes ≡ end_line end.now }
 {
-    let mut text = LineText::new();
+    text.clear();
     match end {
         SweepEnd::End => text.push_str("end"),
         SweepEnd::Stopped { place, error } => {
             text.push_str("stopped ");
-            append_number(&mut text, *place);
+            append_number(text, *place);
             text.push_str(" ");
             text.push_str(error.name());
         }
     }
     text.push_str("\n");
-    text
 }
 
 /// Appends the text of a note.
@@ -138,31 +134,29 @@ fn push_description(text: &mut LineText, desc: InnerDescription)
     }
 }
 
-/// The line of a note: its first bit, its last bit, its number and what stands there.
-pub fn note_text_line(note: &(u32, u32, FieldDescription)) -> LineText
-    ensures { result.bytes ≡ note_line note.now }
+/// Makes the text the line of a note: its first bit, its last bit, its number and what stands there.
+pub fn note_text_line(text: &mut LineText, note: &(u32, u32, FieldDescription))
+    ensures { text.new.bytes ≡ note_line note.now }
 {
-    let mut text = LineText::new();
+    text.clear();
     text.push_str("note ");
-    append_number(&mut text, note.0 as usize);
+    append_number(text, note.0 as usize);
     text.push_str(" ");
-    append_number(&mut text, note.1 as usize);
+    append_number(text, note.1 as usize);
     text.push_str(" ");
-    append_number(&mut text, note.2.id as usize);
+    append_number(text, note.2.id as usize);
     text.push_str(" ");
-    push_description(&mut text, note.2.desc);
+    push_description(text, note.2.desc);
     text.push_str("\n");
-    text
 }
 
-/// The line of an error's name: `error`, a space, the name and a line end.
-pub fn error_text(name: &str) -> LineText
+/// Makes the text the line of an error's name: `error`, a space, the name and a line end.
+pub fn error_text(text: &mut LineText, name: &str)
     requires { length name.now ≤ 32 }
-    ensures { result.bytes ≡ error_line name.now }
+    ensures { text.new.bytes ≡ error_line name.now }
 {
-    let mut text = LineText::new();
+    text.clear();
     text.push_str("error ");
     text.push_str(name);
     text.push_str("\n");
-    text
 }

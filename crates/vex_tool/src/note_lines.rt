@@ -6,7 +6,7 @@ ghost use Rattle.vex_tool.specs.Ends.{Writes};
 ghost use Rattle.vex_tool.specs.NoteLines.{bytes_taken, note_line, note_lines};
 
 use crate::ends::{Failed, Sink};
-use crate::line_text::note_text_line;
+use crate::line_text::{LineText, note_text_line};
 use crate::result_line::write_result_line;
 use vex_decode::{Decoder, reading_is_spelling};
 use x86_operand::{FieldDescription, Instruction};
@@ -27,13 +27,18 @@ fn notes_of(settings: &InstDecoder, bytes: &[u8]) -> ListSink<FieldDescription>
 }
 
 // Writes a line for each note, in one write each.
-fn write_note_lines<K: Sink>(list: &ListSink<FieldDescription>, sink: &mut K) -> Result<(), Failed>
+fn write_note_lines<K: Sink>(
+    list: &ListSink<FieldDescription>,
+    text: &mut LineText,
+    sink: &mut K,
+) -> Result<(), Failed>
     ensures { Writes result (K.text sink.old) (K.text sink.new) (K.faults sink.old) (K.faults sink.new)
         (flat_map note_line list.now.kept) }
 {
     for i in 0..list.len() {
         if let Some(note) = list.get(i) {
-            sink.write_all(note_text_line(note).as_str().as_bytes())?;
+            note_text_line(text, note);
+            sink.write_all(text.as_str().as_bytes())?;
         }
     }
     Ok(())
@@ -44,11 +49,12 @@ fn write_note_lines<K: Sink>(list: &ListSink<FieldDescription>, sink: &mut K) ->
 pub fn write_notes<K: Sink>(
     settings: &InstDecoder,
     bytes: &[u8],
+    text: &mut LineText,
     sink: &mut K,
 ) -> Result<(), Failed>
     ensures { Writes result (K.text sink.old) (K.text sink.new) (K.faults sink.old) (K.faults sink.new)
         (note_lines settings.now bytes.now) }
 {
-    write_note_lines(&notes_of(settings, bytes), sink)?;
-    write_result_line(settings, bytes, sink)
+    write_note_lines(&notes_of(settings, bytes), text, sink)?;
+    write_result_line(settings, bytes, text, sink)
 }

@@ -13,7 +13,7 @@ use crate::emulate_lines::{LineMachine, MEMORY, write_emulated};
 use crate::ends::{Failed, Sink};
 use crate::halt::Halt;
 use crate::least_lines::write_least;
-use crate::line_text::error_text;
+use crate::line_text::{LineText, error_text};
 use crate::note_lines::write_notes;
 use crate::result_line::write_result_line;
 use crate::spelling_lines::write_spellings;
@@ -82,12 +82,14 @@ fn decode_digits(text: &[u8], bytes: &mut [u8]) -> Result<usize, LineError>
     }
 }
 
-/// Room for the digits of a line and for the bytes that they write, and a machine that runs them. It is made once and
-/// lent to each line: to make it anew, by value, would take longer than all else that a line needs.
+/// Room for the digits of a line, for the bytes that they write and for the text of a line of the output, and a machine
+/// that runs the bytes. It is made once and lent to each line: to make it anew, by value, would take longer than all
+/// else that a line needs.
 #[derive(Drop)]
 pub struct LineRoom<'a> {
     digits: ArrayVec<u8, MAX_LINE>,
     bytes: [u8; MAX_CODE],
+    text: LineText,
     machine: LineMachine<'a>,
 }
 
@@ -97,6 +99,7 @@ impl<'a> LineRoom<'a> {
         LineRoom {
             digits: ArrayVec::new(),
             bytes: [0; MAX_CODE],
+            text: LineText::new(),
             machine: LineMachine::new(memory),
         }
     }
@@ -118,11 +121,16 @@ impl<'a> LineRoom<'a> {
 }
 
 /// Writes the line that names the error, in one write. `Failed` where the sink's write fails.
-pub fn write_error<K: Sink>(error: LineError, sink: &mut K) -> Result<(), Failed>
+pub fn write_error<K: Sink>(
+    error: LineError,
+    room: &mut LineRoom,
+    sink: &mut K,
+) -> Result<(), Failed>
     ensures { Writes result (K.text sink.old) (K.text sink.new) (K.faults sink.old) (K.faults sink.new)
         (error_line (line_error_name error)) }
 {
-    sink.write_all(error_text(error.name()).as_str().as_bytes())
+    error_text(&mut room.text, error.name());
+    sink.write_all(room.text.as_str().as_bytes())
 }
 
 // Writes the report of a line of which the command takes these bytes.
@@ -131,6 +139,7 @@ fn write_code_report<K: Sink>(
     command: &Command,
     bytes: &[u8],
     machine: &mut LineMachine<'_>,
+    text: &mut LineText,
     sink: &mut K,
 ) -> Result<(), Halt>
     ensures { Answers (λ written. (written ≡ []) × IsTrue (takes_memory command.now)) result
@@ -139,28 +148,28 @@ fn write_code_report<K: Sink>(
 {
     match command {
         Command::Recode(settings) => {
-            write_result_line(settings, bytes, sink)?;
+            write_result_line(settings, bytes, text, sink)?;
             Ok(())
         }
-        Command::Sweep(settings) => write_sweep(alloc, settings, bytes, sink),
+        Command::Sweep(settings) => write_sweep(alloc, settings, bytes, text, sink),
         Command::Notes(settings) => {
-            write_notes(settings, bytes, sink)?;
+            write_notes(settings, bytes, text, sink)?;
             Ok(())
         }
         Command::Asm(settings) => {
-            write_asm_line(settings, bytes, sink)?;
+            write_asm_line(settings, bytes, text, sink)?;
             Ok(())
         }
         Command::Emulate(settings) => {
-            write_emulated(settings, bytes, machine, sink)?;
+            write_emulated(settings, bytes, machine, text, sink)?;
             Ok(())
         }
         Command::Spellings(settings) => {
-            write_spellings(settings, bytes, sink)?;
+            write_spellings(settings, bytes, text, sink)?;
             Ok(())
         }
         Command::Least => {
-            write_least(bytes, sink)?;
+            write_least(bytes, text, sink)?;
             Ok(())
         }
         // It reads no lines.
@@ -184,12 +193,29 @@ pub fn write_report<K: Sink>(
 {
     if let Command::Asm(_) = command {
         // It takes the line itself.
-        return write_code_report(alloc, command, line, &mut room.machine, sink);
+        return write_code_report(
+            alloc,
+            command,
+            line,
+            &mut room.machine,
+            &mut room.text,
+            sink,
+        );
     }
     match room.decode(line) {
-        Ok(n) => write_code_report(alloc, command, &room.bytes[..n], &mut room.machine, sink),
+        Ok(n) => {
+            let bytes = &room.bytes[..n];
+            write_code_report(
+                alloc,
+                command,
+                bytes,
+                &mut room.machine,
+                &mut room.text,
+                sink,
+            )
+        }
         Err(error) => {
-            write_error(error, sink)?;
+            write_error(error, room, sink)?;
             Ok(())
         }
     }

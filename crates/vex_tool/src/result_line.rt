@@ -10,15 +10,15 @@ use crate::line_text::{LineText, error_text, instruction_text};
 use vex_encode::recode;
 use x86_settings::InstDecoder;
 
-// The result line of these bytes under settings.
-fn result_text(settings: &InstDecoder, bytes: &[u8]) -> LineText
-    ensures { result.bytes ≡ result_line settings.now bytes.now }
+// Makes the text the result line of these bytes under settings.
+fn result_text(text: &mut LineText, settings: &InstDecoder, bytes: &[u8])
+    ensures { text.new.bytes ≡ result_line settings.now bytes.now }
 {
     // The laws of result lines.
     result_lines();
     match recode(settings, bytes) {
-        Ok((instruction, spelling)) => instruction_text(&instruction, &spelling),
-        Err(error) => error_text(error.name()),
+        Ok((instruction, spelling)) => instruction_text(text, &instruction, &spelling),
+        Err(error) => error_text(text, error.name()),
     }
 }
 
@@ -26,10 +26,12 @@ fn result_text(settings: &InstDecoder, bytes: &[u8]) -> LineText
 pub fn write_result_line<K: Sink>(
     settings: &InstDecoder,
     bytes: &[u8],
+    text: &mut LineText,
     sink: &mut K,
 ) -> Result<(), Failed>
     ensures { Writes result (K.text sink.old) (K.text sink.new) (K.faults sink.old) (K.faults sink.new)
         (result_line settings.now bytes.now) }
 {
-    sink.write_all(result_text(settings, bytes).as_str().as_bytes())
+    result_text(text, settings, bytes);
+    sink.write_all(text.as_str().as_bytes())
 }

@@ -6,31 +6,40 @@ ghost use Rattle.vex_tool.specs.Ends.{Writes};
 ghost use Rattle.vex_tool.specs.SpellingLines.{lines_of_meaning, spelling_line, spelling_lines};
 
 use crate::ends::{Failed, Sink};
-use crate::line_text::{bytes_text, error_text};
+use crate::line_text::{LineText, bytes_text, error_text};
 use vex_decode::{Decoder, spelling_is_read};
 use vex_list::{first_spelling, spelling_after};
 use x86_operand::Instruction;
 use x86_settings::InstDecoder;
 
 // Writes a line for each spelling of the instruction's meaning, in order, in one write each.
-fn write_each<K: Sink>(instruction: &Instruction, sink: &mut K) -> Result<(), Failed>
+fn write_each<K: Sink>(
+    instruction: &Instruction,
+    text: &mut LineText,
+    sink: &mut K,
+) -> Result<(), Failed>
     ensures { Writes result (K.text sink.old) (K.text sink.new) (K.faults sink.old) (K.faults sink.new)
         (flat_map spelling_line (all_spellings instruction.now.meaning)) }
 {
     let mut next = first_spelling(instruction);
     while let Some(spelling) = next {
-        sink.write_all(bytes_text(&spelling).as_str().as_bytes())?;
+        bytes_text(text, &spelling);
+        sink.write_all(text.as_str().as_bytes())?;
         next = spelling_after(instruction, spelling.as_slice());
     }
     Ok(())
 }
 
 // Writes the lines of all spellings of the instruction's meaning, and that of the end.
-fn write_all_spellings<K: Sink>(instruction: &Instruction, sink: &mut K) -> Result<(), Failed>
+fn write_all_spellings<K: Sink>(
+    instruction: &Instruction,
+    text: &mut LineText,
+    sink: &mut K,
+) -> Result<(), Failed>
     ensures { Writes result (K.text sink.old) (K.text sink.new) (K.faults sink.old) (K.faults sink.new)
         (lines_of_meaning instruction.now.meaning) }
 {
-    write_each(instruction, sink)?;
+    write_each(instruction, text, sink)?;
     sink.write_all(b"end\n")
 }
 
@@ -39,6 +48,7 @@ fn write_all_spellings<K: Sink>(instruction: &Instruction, sink: &mut K) -> Resu
 pub fn write_spellings<K: Sink>(
     settings: &InstDecoder,
     bytes: &[u8],
+    text: &mut LineText,
     sink: &mut K,
 ) -> Result<(), Failed>
     ensures { Writes result (K.text sink.old) (K.text sink.new) (K.faults sink.old) (K.faults sink.new)
@@ -47,7 +57,10 @@ pub fn write_spellings<K: Sink>(
     // A law: what spells is what a decode reads.
     spelling_is_read();
     match settings.decode_slice(bytes) {
-        Ok(instruction) => write_all_spellings(&instruction, sink),
-        Err(error) => sink.write_all(error_text(error.name()).as_str().as_bytes()),
+        Ok(instruction) => write_all_spellings(&instruction, text, sink),
+        Err(error) => {
+            error_text(text, error.name());
+            sink.write_all(text.as_str().as_bytes())
+        }
     }
 }

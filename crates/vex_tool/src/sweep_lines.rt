@@ -7,19 +7,20 @@ ghost use Rattle.vex_tool.specs.SweepLines.{item_line, sweep_lines};
 
 use crate::ends::{Failed, Sink};
 use crate::halt::Halt;
-use crate::line_text::{end_text, item_text};
+use crate::line_text::{LineText, end_text, item_text};
 use std::alloc::Global;
 use vex_encode::{Items, NoMemory, sweep};
 use x86_settings::InstDecoder;
 
 // Writes a line for each item, in one write each.
-fn write_items<K: Sink>(items: &Items<'_>, sink: &mut K) -> Result<(), Failed>
+fn write_items<K: Sink>(items: &Items<'_>, text: &mut LineText, sink: &mut K) -> Result<(), Failed>
     ensures { Writes result (K.text sink.old) (K.text sink.new) (K.faults sink.old) (K.faults sink.new)
         (flat_map item_line items.now) }
 {
     let list = items.as_slice();
     for item in list {
-        sink.write_all(item_text(item).as_str().as_bytes())?;
+        item_text(text, item);
+        sink.write_all(text.as_str().as_bytes())?;
     }
     Ok(())
 }
@@ -30,6 +31,7 @@ pub fn write_sweep<K: Sink>(
     alloc: Global,
     settings: &InstDecoder,
     bytes: &[u8],
+    text: &mut LineText,
     sink: &mut K,
 ) -> Result<(), Halt>
     ensures { Answers (λ written. written ≡ []) result (K.text sink.old) (K.text sink.new) (K.faults sink.old)
@@ -40,7 +42,8 @@ pub fn write_sweep<K: Sink>(
         Ok(swept) => swept,
         Err(NoMemory) => return Err(Halt::NoMemory),
     };
-    write_items(&swept.items, sink)?;
-    sink.write_all(end_text(&swept.end).as_str().as_bytes())?;
+    write_items(&swept.items, text, sink)?;
+    end_text(text, &swept.end);
+    sink.write_all(text.as_str().as_bytes())?;
     Ok(())
 }

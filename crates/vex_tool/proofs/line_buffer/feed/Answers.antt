@@ -1,8 +1,7 @@
-use Rattle.std.proofs.Common.{◌≡◌, ◌+◌, [], None, refl}
+use Rattle.std.proofs.Common.{◌+◌, [], None, refl}
 use Rattle.std.proofs.lemmas.List.{take_rest}
 use Rattle.std.proofs.lemmas.Result.{err_from_is_err_and}
 use Rattle.memchr.specs.Find.{IsFirstByte, is_byte}
-use Rattle.vex_tool.specs.Report.{report}
 use Rattle.vex_tool.proofs.EndsLemmas.{Answers-all}
 use Rattle.vex_tool.proofs.FeedLemmas.{EndsAt-found, Fed-none, FedUpTo-line, FedUpTo-rest, FedUpTo-stopped}
 use Rattle.vex_tool.proofs.FeedLemmas.{NoEnd-not_found}
