@@ -248,8 +248,7 @@ row_shaped entry w l memory group h =
     by : (has shown : Bool) → shown ≡ has
         → ((shape_of entry.form w l memory).is_row
         && (not shown || group_allowed entry.form (if l then 1 else 0) (if has then Some group else None)))
-        ≡ ((shape_of entry.form w l memory).is_row &&
-        (not shown || is_group (items (form_row entry.form).groups) group))
+        ≡ ((shape_of entry.form w l memory).is_row && (not shown || is_group (items (form_row entry.form).groups) group))
     by true shown e = refl
     by false shown e = ap (λ b. (shape_of entry.form w l memory).is_row
         && (not b || group_allowed entry.form (if l then 1 else 0) None)) e
