@@ -1,5 +1,5 @@
 -- An instruction that was given one operand more.
-use Rattle.std.proofs.Common.{◌≡◌, ℕ, ◌+◌, ◌<◌, ◌≤◌, false, Option, List, [], ◌∷◌, ◌++◌, map, length, take, get_or, ap}
+use Rattle.std.proofs.Common.{◌≡◌, ℕ, zero, suc, ◌+◌, ◌<◌, ◌≤◌, false, Option, List, [], ◌∷◌, ◌++◌, map, length, take, get_or, ap}
 use Rattle.std.proofs.Common.{sym, ◌∙◌, arith}
 use Rattle.std.proofs.lemmas.List.{map-append, take_more, length-map, length-take-le}
 use Rattle.x86_opcode.specs.declared.Opcode.{Opcode}
@@ -29,3 +29,16 @@ meaning_more g slots i s opcode size before after adds few in_slots read so_far 
     ∙ ap {A = Meaning} (λ meaning. record meaning { operands = meaning.operands ++ g s ∷ [] }) so_far
     ∙ ap (λ operands. record { evex = false; opcode = opcode; operands = operands; size = size })
     (mapped_more g slots i s in_slots read)
+
+-- the first of four slots, where the number of them is cut down to four
+pub first_of_four : (n m : ℕ) (a b c d : Slot) → (n ≤ 4 → m ≡ n) → (4 ≤ n → m ≡ 4)
+    → take m (a ∷ b ∷ c ∷ d ∷ []) ≡ take n (a ∷ b ∷ c ∷ d ∷ [])
+first_of_four (suc (suc (suc (suc (suc n))))) m a b c d few many =
+    ap (λ k. take k (a ∷ b ∷ c ∷ d ∷ [])) (many (omega arith))
+first_of_four (suc (suc (suc (suc zero)))) m a b c d few many =
+    ap (λ k. take k (a ∷ b ∷ c ∷ d ∷ [])) (few (omega arith))
+first_of_four (suc (suc (suc zero))) m a b c d few many =
+    ap (λ k. take k (a ∷ b ∷ c ∷ d ∷ [])) (few (omega arith))
+first_of_four (suc (suc zero)) m a b c d few many = ap (λ k. take k (a ∷ b ∷ c ∷ d ∷ [])) (few (omega arith))
+first_of_four (suc zero) m a b c d few many = ap (λ k. take k (a ∷ b ∷ c ∷ d ∷ [])) (few (omega arith))
+first_of_four zero m a b c d few many = ap (λ k. take k (a ∷ b ∷ c ∷ d ∷ [])) (few (omega arith))

@@ -27,7 +27,8 @@ use Rattle.vex_forms.specs.declared.slot.Slot.{Slot}
 use Rattle.vex_forms.specs.declared.shape.RowShape.{RowShape}
 use Rattle.vex_forms.specs.Layout.{group_for, kind_for, may_be, row_for, rules_allow}
 use Rattle.vex_forms.specs.Shapes.{shape_of, size_in, four_slots, slots_by, slots_in, slots_seen, with_bank, with_e_in}
-use Rattle.vex_forms.specs.Slots.{element_bank, gather_bank, general, size_of, slots, v_rule, vector}
+use Rattle.vex_forms.specs.Slots.{element_bank, gather_bank, gather_index_bank, general, index_bank, size_of, slots}
+use Rattle.vex_forms.specs.Slots.{v_rule, vector}
 use Rattle.vex_forms.proofs.Choices.{exists_by_checks}
 
 -- an entry that has a form
@@ -81,31 +82,38 @@ record IsShape (shape : RowShape) (row : Row) (memory : Bool) : Type 0 where
   permitted : present_with true row memory ≡ (shape.is_row && (not shape.has_group || true))
   refused : present_with false row memory ≡ (shape.is_row && (not shape.has_group || false))
 
--- where banks go by the opcode, the slots with each of them are those of the form's shape at another W or L
+-- whether banks are those of a gather
+abbrev is_gather : BanksByOpcode → Bool
+is_gather Gather = true
+is_gather _ = false
+
+-- where banks go by the opcode, the slots with each of them are those of the form's shape at another W or L; those of a
+-- gather stand where the form gathers
 record HasBanks (form : Form) (w l memory : Bool) (shape : RowShape) : Type 0 where
   narrow : slots_with shape D X ≡ by_banks shape.banks (slots_seen (shape_of form false l memory))
       (slots_seen (shape_of form w false memory))
   wide : slots_with shape Q Y ≡ by_banks shape.banks (slots_seen (shape_of form true l memory))
       (slots_seen (shape_of form w true memory))
+  gathers : is_gather shape.banks ≡ gathers form
 
 has_banks : (w l memory : Bool) (form : Form) → HasBanks form w l memory (shape_of form w l memory)
-unfolding shape_of by_banks
-has_banks false false false Nothing = record { narrow = refl; wide = refl }
-has_banks false false false _ = record { narrow = refl; wide = refl }
-has_banks false false true Nothing = record { narrow = refl; wide = refl }
-has_banks false false true _ = record { narrow = refl; wide = refl }
-has_banks false true false Nothing = record { narrow = refl; wide = refl }
-has_banks false true false _ = record { narrow = refl; wide = refl }
-has_banks false true true Nothing = record { narrow = refl; wide = refl }
-has_banks false true true _ = record { narrow = refl; wide = refl }
-has_banks true false false Nothing = record { narrow = refl; wide = refl }
-has_banks true false false _ = record { narrow = refl; wide = refl }
-has_banks true false true Nothing = record { narrow = refl; wide = refl }
-has_banks true false true _ = record { narrow = refl; wide = refl }
-has_banks true true false Nothing = record { narrow = refl; wide = refl }
-has_banks true true false _ = record { narrow = refl; wide = refl }
-has_banks true true true Nothing = record { narrow = refl; wide = refl }
-has_banks true true true _ = record { narrow = refl; wide = refl }
+unfolding shape_of by_banks gathers form_row
+has_banks false false false Nothing = record { narrow = refl; wide = refl; gathers = refl }
+has_banks false false false _ = record { narrow = refl; wide = refl; gathers = refl }
+has_banks false false true Nothing = record { narrow = refl; wide = refl; gathers = refl }
+has_banks false false true _ = record { narrow = refl; wide = refl; gathers = refl }
+has_banks false true false Nothing = record { narrow = refl; wide = refl; gathers = refl }
+has_banks false true false _ = record { narrow = refl; wide = refl; gathers = refl }
+has_banks false true true Nothing = record { narrow = refl; wide = refl; gathers = refl }
+has_banks false true true _ = record { narrow = refl; wide = refl; gathers = refl }
+has_banks true false false Nothing = record { narrow = refl; wide = refl; gathers = refl }
+has_banks true false false _ = record { narrow = refl; wide = refl; gathers = refl }
+has_banks true false true Nothing = record { narrow = refl; wide = refl; gathers = refl }
+has_banks true false true _ = record { narrow = refl; wide = refl; gathers = refl }
+has_banks true true false Nothing = record { narrow = refl; wide = refl; gathers = refl }
+has_banks true true false _ = record { narrow = refl; wide = refl; gathers = refl }
+has_banks true true true Nothing = record { narrow = refl; wide = refl; gathers = refl }
+has_banks true true true _ = record { narrow = refl; wide = refl; gathers = refl }
 
 -- computed at every form, W, L and place of the operand E
 shaped : (w l memory : Bool) (form : Form) (entry : Entry) (group : Option ℕ)
@@ -214,6 +222,19 @@ module _ (entry : Entry) (w l memory : Bool) (group : Option ℕ) where
       is bank (has_banks w l memory entry.form).narrow ∙ slots_shaped
   gather_shaped true is bank = gather_moved shape.banks shape.slot_count (four_slots shape) row.l entry.opcode Y _ _ _
       is bank (has_banks w l memory entry.form).wide ∙ slots_shaped
+
+  -- the bank of an index, where a form gathers and where it doesn't
+  index_shaped : (answer : Bool) → is_gather shape.banks ≡ answer
+      → index_bank row ≡ (if answer then gather_index_bank row.l entry.opcode else Q)
+  unfolding index_bank
+  index_shaped answer h = ap (λ g. if g then gather_index_bank row.l entry.opcode else Q)
+      (sym (has_banks w l memory entry.form).gathers ∙ h)
+
+  pub plain_index_shaped : (banks : BanksByOpcode) → shape.banks ≡ banks → is_gather banks ≡ false → index_bank row ≡ Q
+  plain_index_shaped banks is h = index_shaped false (ap is_gather is ∙ h)
+
+  pub gather_index_shaped : shape.banks ≡ Gather → index_bank row ≡ gather_index_bank row.l entry.opcode
+  gather_index_shaped is = index_shaped true (ap is_gather is)
 
   by_group : (answer : Bool) → present_with answer row memory ≡ (shape.is_row && (not shape.has_group || answer))
   by_group true = is_shape.permitted

@@ -12,11 +12,14 @@ use Rattle.vex_forms.specs.declared.choice.Choice.{Choice}
 use Rattle.vex_forms.specs.declared.row_layout.RowLayout.{RowLayout}
 use Rattle.vex_forms.specs.Slots.{slots, index_bank, size_of, v_rule}
 
--- the kind of the operand E: memory, whose index is a vector register where the form gathers, or a register, and that
--- without ModRM where the form has none
+-- the kind of the operand E, by whether there is a ModRM byte, whether the index of an address is a vector register, and
+-- whether the operand is in memory
+abbrev pub kind_at : Bool → Bool → Bool → Kind
+kind_at modrm vector memory = if modrm then (if memory then memory_kind vector else InRegister) else WithoutModRM
+
+-- the kind of the operand E of a form, in memory or not: the index is a vector register where the form gathers
 abbrev pub kind_for : Form → Bool → Kind
-kind_for form memory = if (steps form).modrm then (if memory then memory_kind (gathers form) else InRegister) else
-    WithoutModRM
+kind_for form memory = kind_at (steps form).modrm (gathers form) memory
 
 -- the reg field of a row, where its form has groups
 abbrev pub group_for : Form → ℕ → Option ℕ

@@ -10,8 +10,8 @@ use Rattle.x86_address.specs.Place.{Place, kind_of, target}
 use Rattle.vex_rows.specs.declared.entry.Entry.{Entry}
 use Rattle.vex_rows.specs.declared.key.Prefix.{Prefix}
 use Rattle.vex_rows.specs.Rules.{allows}
-use Rattle.vex_forms.specs.declared.checks.Kind.{Kind as CodeKind}
-use Rattle.vex_forms.specs.declared.checks.Kind.TheVariants as code
+use Rattle.vex_forms.specs.declared.kind.Kind.{Kind as CodeKind}
+use Rattle.vex_forms.specs.declared.kind.Kind.TheVariants as code
 use Rattle.vex_forms.specs.declared.operand_e.OperandE.{OperandE}
 use Rattle.vex_forms.specs.declared.operand_e.OperandE.TheVariants.{Absent, Register, Memory}
 use Rattle.vex_forms.specs.declared.operand_fields.OperandFields.{OperandFields}

@@ -1,64 +1,15 @@
 //! The checks of a form, which stand between the steps that read.
 
-ghost use Rattle.std.specs.Prelude.{◌≡◌, ◌%◌, true, [], ◌∷◌};
+ghost use Rattle.std.specs.Prelude.{◌≡◌, [], ◌∷◌};
 ghost use Rattle.x86_address.specs.Follows.{Any, Decides};
-ghost use Rattle.x86_operand.specs.Kind.{is_vector};
 ghost use Rattle.vex_rows.specs.Few.{items};
-ghost use Rattle.vex_rows.specs.Row.{is_memory, is_memory_of};
 ghost use Rattle.vex_forms.specs.Fields.{fields_of};
-ghost use Rattle.vex_forms.specs.FormWalk.{check_all, kind_by, passes, refusal};
+ghost use Rattle.vex_forms.specs.FormWalk.{check_all, passes, refusal};
 ghost use Rattle.vex_forms.specs.Reads.{kind_seen};
 
+use crate::kind::Kind;
 use vex_rows::{Check, Entry, Few, Prefix, row_of_form};
 use x86_operand::DecodeError;
-
-/// What stands in the place of the operand E.
-#[derive(Clone, Copy, PartialEq, Eq, Debug)]
-pub enum Kind {
-    /// Nothing, since there is no ModRM byte.
-    WithoutModRM,
-    /// A register.
-    Register,
-    /// An address in memory.
-    Memory,
-    /// An address in memory whose index is a vector register.
-    Vector,
-}
-
-impl Kind {
-    /// The kind that ModRM says: a register where the field mod is 3, and with SIB a vector register as the index where
-    /// the entry's form gathers (Intel SDM volume 2, sections 2.1.3 and 2.3.12).
-    pub fn of(entry: &Entry, modrm: u8) -> Kind
-        ensures kind { kind_seen result ≡ kind_by entry.now modrm }
-        ensures sib { is_vector (kind_seen result) ≡ true → modrm % 8 ≡ 4 }
-    {
-        if modrm / 64 == 3 {
-            Kind::Register
-        } else if row_of_form(entry.form).gathers && modrm % 8 == 4 {
-            Kind::Vector
-        } else {
-            Kind::Memory
-        }
-    }
-
-    /// Whether it is an address in memory.
-    fn is_memory(self) -> bool
-        ensures { result ≡ is_memory (kind_seen self) }
-    {
-        matches!(self, Kind::Memory | Kind::Vector)
-    }
-
-    /// Whether it is an address in memory whose index is a vector register or not.
-    fn is_memory_of(self, vector: bool) -> bool
-        ensures { result ≡ is_memory_of vector (kind_seen self) }
-    {
-        match self {
-            Kind::WithoutModRM | Kind::Register => false,
-            Kind::Memory => !vector,
-            Kind::Vector => vector,
-        }
-    }
-}
 
 /// Whether a check passes, by the prefix, the kind of the operand E and the field reg.
 #[tactic(auto, unfolding(vex_rows::specs::Groups::groups))]

@@ -68,7 +68,16 @@ impl Choice {
         ensures memory { result.memory ≡ memory }
     {
         Choice {
-            entry: *entry,
+            // Field by field, so that the compiler knows the form, by which the row's shape was found.
+            entry: Entry {
+                map: entry.map,
+                pp: entry.pp,
+                byte: entry.byte,
+                w: entry.w,
+                l: entry.l,
+                form: entry.form,
+                opcode: entry.opcode,
+            },
             w,
             l,
             memory,

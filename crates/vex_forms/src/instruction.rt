@@ -36,7 +36,7 @@ fn write_parts(
         } }
     ensures length { instruction.new.len ≡ 0 }
 {
-    *instruction = Instruction::of(opcode, false);
+    instruction.reset(opcode, false);
     instruction.set_mem_size(mem_size);
     for slot in slots {
         add_operand(*slot, index_bank, fields, instruction);
@@ -70,11 +70,15 @@ impl Choice {
             fields.now.imm }
         ensures length { instruction.new.len ≡ 0 }
     {
-        let slots = self.slots();
+        let (shape, index_bank) = self.shape_and_index_bank();
+        let (a, b, c, d) = shape.slots;
+        let four = [a, b, c, d];
+        // A shape has no more than four.
+        let slots = &four[..usize::from(shape.slot_count.min(4))];
         write_parts(
             self.opcode(),
-            slots.as_slice(),
-            self.index_bank(),
+            slots,
+            index_bank,
             self.memory_size(),
             fields,
             instruction,

@@ -31,6 +31,7 @@ mod choice;
 #[cfg(test)]
 mod example;
 mod instruction;
+mod kind;
 pub mod laws;
 mod operand_e;
 mod operand_fields;
@@ -44,6 +45,7 @@ mod slot;
 mod slots;
 
 pub use instruction::instruction_of;
+pub use kind::Kind;
 pub use operand_e::OperandE;
 pub use operand_fields::OperandFields;
 pub use reading::{read_form, read_form_into};

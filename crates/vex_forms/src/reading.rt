@@ -1,6 +1,6 @@
 //! Reading what the form of an entry asks for.
 
-ghost use Rattle.std.specs.Prelude.{◌≡◌, ◌≢◌, ◌<◌, ◌/◌, ◌%◌, true, IfOk, IfErr};
+ghost use Rattle.std.specs.Prelude.{◌≡◌, ◌≢◌, ◌<◌, ◌/◌, ◌%◌, true, IfOk, IfErr, OnErr};
 ghost use Rattle.x86_operand.specs.Kind.{is_vector};
 ghost use Rattle.x86_address.specs.Reading.{take_place};
 ghost use Rattle.x86_address.specs.Reads.{NamesAddress};
@@ -14,8 +14,9 @@ ghost use Rattle.vex_forms.specs.Operands.{made};
 ghost use Rattle.vex_forms.specs.Reads.{FailsForm, HasPrefix, IsInstruction, IsOperandE, IsOperands, TakesForm};
 ghost use Rattle.vex_forms.specs.Reads.{kind_of_e, kind_seen};
 
-use crate::checks::{Kind, do_checks};
+use crate::checks::do_checks;
 use crate::choice::Choice;
+use crate::kind::Kind;
 use crate::operand_e::OperandE;
 use crate::operand_fields::OperandFields;
 use vex_rows::{Entry, FormRow, Prefix, row_of_form};
@@ -85,7 +86,7 @@ fn read_from_modrm<R: Reader>(
 {
     let modrm = read_modrm(words)?;
     let reg = modrm / 8 % 8;
-    let kind = Kind::of(entry, modrm);
+    let kind = Kind::of_modrm(entry, modrm);
     do_checks(&form.after_modrm, entry, prefix, kind, reg)?;
     let e = read_e(form.address, kind, modrm, prefix, words)?;
     do_checks(&form.after_address, entry, prefix, kind, reg)?;
@@ -147,7 +148,7 @@ fn is_memory(e: OperandE) -> bool
 }
 
 /// Does the steps of an entry's form as `read_form` does, and writes the instruction that they mean, whatever the
-/// caller's held.
+/// caller's held. After an error that stays as it was.
 pub fn read_form_into<R: Reader>(
     entry: &Entry,
     prefix: &Prefix,
@@ -156,8 +157,10 @@ pub fn read_form_into<R: Reader>(
 ) -> Result<(), DecodeError>
     requires prefix { HasPrefix entry.now (fields_of prefix.now) }
     requires vvvv { prefix.now.vvvv < 16 }
-    ensures { Follows (walk_form entry.now (fields_of prefix.now)) (IsInstruction entry.now (fields_of prefix.now))
+    ensures follows { Follows (walk_form entry.now (fields_of prefix.now))
+        (IsInstruction entry.now (fields_of prefix.now))
         (R.state words.old) (R.state words.new) (made result instruction.new) }
+    ensures unchanged { OnErr result (instruction.new ≡ instruction.old) }
 {
     let fields = read_operands(entry, prefix, words)?;
     // The steps have passed, so that the choice is a row.

@@ -11,6 +11,7 @@ use vex_rows::{ByteCount, SizeList, size_in};
 use x86_operand::{MemoryAccessSize, Opcode};
 
 /// The size that a list has for an opcode, or else the other.
+#[inline(always)]
 fn size_or(list: SizeList, opcode: Opcode, other: ByteCount) -> ByteCount
     ensures { result ≡ found_or (find (is_of opcode) (sizes list)) other }
 {

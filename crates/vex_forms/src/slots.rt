@@ -22,35 +22,30 @@ fn vector(l: bool) -> RegisterBank
 }
 
 /// Whether the general bank of an element is q, that of the 64-bit ones.
+#[inline(always)]
 fn is_quadword(opcode: Opcode) -> bool
     ensures { element_bank opcode ≡ general result }
 {
     matches!(opcode, Opcode::VPEXTRQ | Opcode::VPINSRQ)
 }
 
-/// The L whose vector bank a gather's operands have: 0 where the elements are half as wide as the indices.
-fn l_of_gather(l: bool, opcode: Opcode) -> bool
-    ensures { gather_bank (if l then 1 else 0) opcode ≡ vector (if result then 1 else 0) }
+/// The L whose vector bank a gather's operands have, 0 where the elements are half as wide as the indices, and the bank
+/// of its index, x where the indices are half as wide as the elements.
+#[inline(always)]
+fn gather_banks(l: bool, opcode: Opcode) -> (bool, RegisterBank)
+    ensures operands { gather_bank (if l then 1 else 0) opcode ≡ vector (if result.0 then 1 else 0) }
+    ensures index { result.1 ≡ gather_index_bank (if l then 1 else 0) opcode }
 {
     match opcode {
-        Opcode::VPGATHERQD | Opcode::VGATHERQPS => false,
-        _ => l,
-    }
-}
-
-/// The bank of a gather's index: x where the indices are half as wide as the elements.
-fn gather_index_bank(l: bool, opcode: Opcode) -> RegisterBank
-    ensures { result ≡ gather_index_bank (if l then 1 else 0) opcode }
-{
-    match opcode {
-        Opcode::VPGATHERDQ | Opcode::VGATHERDPD => X,
-        _ => vector(l),
+        Opcode::VPGATHERQD | Opcode::VGATHERQPS => (false, vector(l)),
+        Opcode::VPGATHERDQ | Opcode::VGATHERDPD => (l, X),
+        _ => (l, vector(l)),
     }
 }
 
 /// The first of four slots.
 #[inline(always)]
-fn first_slots(slots: (Slot, Slot, Slot, Slot), count: u8) -> ArrayVec<Slot, 4>
+pub fn first_slots(slots: (Slot, Slot, Slot, Slot), count: u8) -> ArrayVec<Slot, 4>
     ensures { result.items ≡ take count (slots.0 ∷ slots.1 ∷ slots.2 ∷ slots.3 ∷ []) }
 {
     let (a, b, c, d) = slots;
@@ -60,45 +55,28 @@ fn first_slots(slots: (Slot, Slot, Slot, Slot), count: u8) -> ArrayVec<Slot, 4>
 }
 
 impl Choice {
-    /// The shape that has the row's slots: its own, and where the opcode says the banks, that of the form at the W or L
-    /// with these banks.
+    /// The shape that has the row's slots, and the bank of the index of an address. The shape is the row's own, and
+    /// where the opcode says the banks, that of the form at the W or L with these banks. The index is a vector register
+    /// where the form gathers, and of bank `Q` elsewhere.
     #[inline(always)]
-    fn shape_of_slots(&self) -> &'static RowShape
-        ensures { slots_seen result.now ≡ slots (chosen self.now) }
+    pub fn shape_and_index_bank(&self) -> (&'static RowShape, RegisterBank)
+        ensures slots { slots_seen result.0.now ≡ slots (chosen self.now) }
+        ensures index { result.1 ≡ index_bank (chosen self.now) }
     {
         let shape = self.shape();
         match shape.banks {
-            BanksByOpcode::Fixed => shape,
+            BanksByOpcode::Fixed => (shape, Q),
             BanksByOpcode::Element => {
                 let w = is_quadword(self.entry.opcode);
-                shape_at(self.entry.form, w, self.l, self.memory)
+                (shape_at(self.entry.form, w, self.l, self.memory), Q)
             }
             BanksByOpcode::Gather => {
-                let l = l_of_gather(self.l, self.entry.opcode);
-                shape_at(self.entry.form, self.w, l, self.memory)
+                let (l, index_bank) = gather_banks(self.l, self.entry.opcode);
+                (
+                    shape_at(self.entry.form, self.w, l, self.memory),
+                    index_bank,
+                )
             }
-        }
-    }
-
-    /// The slots of the row, one for each operand in order.
-    #[inline(always)]
-    pub fn slots(&self) -> ArrayVec<Slot, 4>
-        ensures { result.items ≡ slots (chosen self.now) }
-    {
-        let shape = self.shape_of_slots();
-        first_slots(shape.slots, shape.slot_count)
-    }
-
-    /// The bank of the index of an address: a vector register where the form gathers, and `Q` elsewhere.
-    #[tactic(auto, unfolding(crate::specs::Slots::index_bank))]
-    #[inline(always)]
-    pub fn index_bank(&self) -> RegisterBank
-        ensures { result ≡ index_bank (chosen self.now) }
-    {
-        if self.form_row().gathers {
-            gather_index_bank(self.l, self.entry.opcode)
-        } else {
-            Q
         }
     }
 }

@@ -2,8 +2,9 @@
 //! docs/DIFFERENCES.md names.
 
 use crate::wanted::{Asked, lines, wanted};
-use crate::{laws, layout};
+use crate::{Kind, laws, layout};
 use std::process::Abort;
+use std::test::Fail;
 use vex_rows::{Entry, Form, Map, Pp, Rule};
 use x86_operand::Opcode;
 
@@ -63,6 +64,35 @@ fn every_form_is_laid_out_as_the_manual_has_it(rt: HostRuntime) {
         form_is_laid_out(&rt, line.form);
     }
     assert!(rt; seen.iter().all(|form| *form));
+}
+
+#[test]
+fn rows_and_modrm_bytes_have_kinds(rt: HostRuntime) -> Result<(), Fail> {
+    let sum = entry(Form::G_V_E_xyLmm, Opcode::VADDPS);
+    let gather = entry(Form::G_ExyL_V_xyLmm, Opcode::VPGATHERDD);
+    let nothing = entry(Form::Nothing, Opcode::VZEROUPPER);
+    // A SIB byte comes where mod isn't 3 and rm is 4.
+    for (entry, modrm, kind) in [
+        (&sum, 0xC4, Kind::Register),
+        (&sum, 0x04, Kind::Memory),
+        (&gather, 0xC4, Kind::Register),
+        (&gather, 0x84, Kind::Vector),
+        (&gather, 0x05, Kind::Memory),
+    ] {
+        assert_eq!(rt; Kind::of_modrm(entry, modrm), kind, "{modrm}");
+    }
+    for (entry, memory, kind) in [
+        (&sum, false, Kind::Register),
+        (&sum, true, Kind::Memory),
+        (&gather, true, Kind::Vector),
+        (&nothing, false, Kind::WithoutModRM),
+    ] {
+        let row = layout(entry, false, false, memory, 0).ok_or("a row")?;
+        assert_eq!(rt; Kind::of(&row, memory), kind);
+        assert_eq!(rt; kind.is_memory(), memory);
+        assert_eq!(rt; kind.is_vector(), kind == Kind::Vector);
+    }
+    Ok(())
 }
 
 #[test]

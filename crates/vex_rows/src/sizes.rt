@@ -183,6 +183,7 @@ fn all_size_places() -> &'static [u16]
 
 /// The size where its opcode has that number.
 #[tactic(auto, unfolding(x86_opcode::specs::Number::same_opcode))]
+#[inline(always)]
 fn of_number(size: (Opcode, ByteCount), number: u16) -> Option<(Opcode, ByteCount)>
     ensures { result ≡ if opcode_number size.0 == number then Some size else None }
 {
@@ -194,6 +195,7 @@ fn of_number(size: (Opcode, ByteCount), number: u16) -> Option<(Opcode, ByteCoun
 }
 
 /// The opcode in a list with the number of its bytes, and `None` where it isn't in the list.
+#[inline(always)]
 pub fn size_in(list: SizeList, opcode: Opcode) -> Option<(Opcode, ByteCount)>
     ensures { result ≡ find (λ size. same_opcode size.0 opcode) (sizes list) }
 {

@@ -96,6 +96,35 @@ impl Instruction {
         }
     }
 
+    /// Puts the instruction back, in place, to what `of` makes: that opcode and mark, no operands, no
+    /// memory size, and length 0, whatever it held.
+    pub fn reset(&mut self, opcode: Opcode, evex: bool)
+        ensures { self.new ≡ record {
+          meaning = record { evex = evex; opcode = opcode; operands = []; size = None };
+          len = 0;
+        } }
+    {
+        self.evex = evex;
+        self.set_opcode(opcode);
+        self.clear_operands();
+        self.set_mem_size(None);
+        self.set_len(0);
+    }
+
+    // Takes all operands away. Where there are none, each place holds `Nothing` already.
+    #[tactic(auto, unfolding(crate::specs::Instruction::four_places))]
+    fn clear_operands(&mut self)
+        ensures { self.new ≡ record self.old { meaning = record self.old.meaning { operands = [] } } }
+    {
+        if self.operand_count > 0 {
+            self.operands[0] = Operand::Nothing;
+            self.operands[1] = Operand::Nothing;
+            self.operands[2] = Operand::Nothing;
+            self.operands[3] = Operand::Nothing;
+            self.operand_count = 0;
+        }
+    }
+
     /// The instruction of that meaning with length 0, or `None` where there are more than four
     /// operands.
     #[tactic(auto, using(crate::specs::Instruction::Lemmas::places))]

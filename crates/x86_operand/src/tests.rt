@@ -132,6 +132,35 @@ fn operands_are_added_one_by_one(rt: HostRuntime) -> Result<(), Fail> {
 }
 
 #[test]
+fn nothing_is_left_after_a_reset(rt: HostRuntime) -> Result<(), Fail> {
+    let reg = RegSpec::rcx();
+    let address = Address {
+        base: None,
+        index: Some(Index { reg, scale: 8 }),
+        disp: -1,
+    };
+    let operands = [
+        Operand::Register { reg },
+        unsigned(2),
+        Operand::Memory { address },
+        Operand::ImmediateI8 { imm: -4 },
+    ];
+    let size = MemoryAccessSize::of(64);
+    let mut made = Instruction::from_parts(true, Opcode::VPAND, &operands, size).ok_or(
+        "four operands",
+    )?;
+    made.set_len(15);
+    made.reset(Opcode::VADDPS, false);
+    assert_eq!(rt; made, Instruction::of(Opcode::VADDPS, false));
+    for place in 0..5 {
+        assert_eq!(rt; made.operand(place), Operand::Nothing);
+    }
+    made.reset(Opcode::VMULPS, true);
+    assert_eq!(rt; made, Instruction::of(Opcode::VMULPS, true));
+    Ok(())
+}
+
+#[test]
 fn an_address_is_kept_in_one_form(rt: HostRuntime) -> Result<(), Fail> {
     let base = RegSpec::rax();
     let plain = Address {

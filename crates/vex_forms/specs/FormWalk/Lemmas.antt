@@ -115,22 +115,33 @@ place_has vector mode rm bytes answer = by vector (mode == 3) (rm == 4) where
   by true false false e = based_has mode rm bytes answer e
   by false false false e = based_has mode rm bytes answer e
 
+-- what a check of one sort tells, where the checks have passed and one of them is of that sort
+check_tells : (entry : Entry) (f : Fields) (kind : Kind) (reg : ℕ) (is_sort : Check → Bool) (test : Kind → Bool)
+    → ((c : Check) → is_sort c ≡ true → passes entry f kind reg c ≡ true → test kind ≡ true)
+    → (checks : List Check) → list_any is_sort checks ≡ true → list_all (passes entry f kind reg) checks ≡ true
+    → test kind ≡ true
+check_tells entry f kind reg is_sort test tells [] any all = cc
+check_tells entry f kind reg is_sort test tells (c ∷ checks) any all =
+    let both = both-parts (passes entry f kind reg c) (list_all (passes entry f kind reg) checks) all in
+    by (is_sort c) refl any (λ is. tells c is both.0)
+    (λ next. check_tells entry f kind reg is_sort test tells checks next both.1) where
+      by : (b : Bool) → is_sort c ≡ b → (b || list_any is_sort checks) ≡ true
+          → (is_sort c ≡ true → test kind ≡ true) → (list_any is_sort checks ≡ true → test kind ≡ true)
+          → test kind ≡ true
+      by true e any here next = here e
+      by false e any here next = next any
+
 -- a form that reads no address has checked that the operand is a register
+register_tells : (entry : Entry) (f : Fields) (kind : Kind) (reg : ℕ) (c : Check) → is_register_check c ≡ true
+    → passes entry f kind reg c ≡ true → is_register kind ≡ true
+register_tells entry f kind reg Reg is passed = passed
+register_tells entry f kind reg _ is passed = cc
+
 pub register_checked : (entry : Entry) (f : Fields) (kind : Kind) (reg : ℕ) (checks : List Check)
     → list_any is_register_check checks ≡ true → list_all (passes entry f kind reg) checks ≡ true
     → is_register kind ≡ true
-register_checked entry f kind reg [] any all = cc
-register_checked entry f kind reg (Reg ∷ checks) any all = (both-parts _ _ all).0
-register_checked entry f kind reg (V0 ∷ checks) any all =
-    register_checked entry f kind reg checks any (both-parts _ _ all).1
-register_checked entry f kind reg (L0 ∷ checks) any all =
-    register_checked entry f kind reg checks any (both-parts _ _ all).1
-register_checked entry f kind reg (Mem ∷ checks) any all =
-    register_checked entry f kind reg checks any (both-parts _ _ all).1
-register_checked entry f kind reg (Group ∷ checks) any all =
-    register_checked entry f kind reg checks any (both-parts _ _ all).1
-register_checked entry f kind reg (VifMem ∷ checks) any all =
-    register_checked entry f kind reg checks any (both-parts _ _ all).1
+register_checked entry f kind reg = check_tells entry f kind reg is_register_check is_register
+    (register_tells entry f kind reg)
 
 register_mod : (vector : Bool) (mode rm : ℕ) → is_register (kind_of_modrm vector mode rm) ≡ true → mode ≡ 3
 register_mod vector mode rm = by (mode == 3) refl where
@@ -146,21 +157,16 @@ register_passed entry f vector mode rm reg checks any all =
     register_mod vector mode rm (register_checked entry f (kind_of_modrm vector mode rm) reg checks any all)
 
 -- a form that gathers has checked that there is an address
+memory_tells : (entry : Entry) (f : Fields) (kind : Kind) (reg : ℕ) (c : Check) → is_memory_check c ≡ true
+    → passes entry f kind reg c ≡ true → is_memory_of (gathers entry.form) kind ≡ true
+memory_tells entry f kind reg Mem is passed = passed
+memory_tells entry f kind reg _ is passed = cc
+
 memory_checked : (entry : Entry) (f : Fields) (kind : Kind) (reg : ℕ) (checks : List Check)
     → list_any is_memory_check checks ≡ true → list_all (passes entry f kind reg) checks ≡ true
     → is_memory_of (gathers entry.form) kind ≡ true
-memory_checked entry f kind reg [] any all = cc
-memory_checked entry f kind reg (Mem ∷ checks) any all = (both-parts _ _ all).0
-memory_checked entry f kind reg (V0 ∷ checks) any all =
-    memory_checked entry f kind reg checks any (both-parts _ _ all).1
-memory_checked entry f kind reg (L0 ∷ checks) any all =
-    memory_checked entry f kind reg checks any (both-parts _ _ all).1
-memory_checked entry f kind reg (Reg ∷ checks) any all =
-    memory_checked entry f kind reg checks any (both-parts _ _ all).1
-memory_checked entry f kind reg (Group ∷ checks) any all =
-    memory_checked entry f kind reg checks any (both-parts _ _ all).1
-memory_checked entry f kind reg (VifMem ∷ checks) any all =
-    memory_checked entry f kind reg checks any (both-parts _ _ all).1
+memory_checked entry f kind reg = check_tells entry f kind reg is_memory_check (is_memory_of (gathers entry.form))
+    (memory_tells entry f kind reg)
 
 -- so that its kind is one of the form's
 modrm_kind : (vector : Bool) (mode rm : ℕ)
