@@ -8,7 +8,9 @@ ghost use Rattle.x86_operand.specs.declared.register.RegisterBank.{RegisterBank}
 ghost use Rattle.x86_operand.specs.declared.register.RegisterBank.TheVariants.{Q};
 ghost use Rattle.x86_address.specs.Shortest.{in_banks, index_register, plain, plain_index};
 ghost use Rattle.x86_address.specs.Spells.{BaseFits, IndexFits};
+ghost use Rattle.vex_rows.specs.Row.{Row};
 ghost use Rattle.vex_forms.specs.Operands.{BanksFit, NumberFits};
+ghost use Rattle.vex_forms.specs.Slots.{slots};
 ghost use Rattle.vex_encode.specs.Assembly.{AsksFor, CanBePlaced, HasNumbers, GeneralAddress, IsAddress, IsAddressOf};
 ghost use Rattle.vex_encode.specs.Assembly.{IsAsked, IsPlaced};
 ghost use Rattle.vex_encode.specs.Kind.{kind_seen};
@@ -17,7 +19,7 @@ ghost use Rattle.vex_encode.specs.Conditions.{AddressFits, SlotIndexFits};
 
 use crate::kind::Kind;
 use crate::operand_walk::{Asked, number_of};
-use vex_forms::{OperandE, OperandFields, RowLayout};
+use vex_forms::{OperandE, OperandFields};
 use x86_operand::{Address, Index, Operand, RegSpec, RegisterBank};
 
 /// The address of an operand in memory.
@@ -87,18 +89,20 @@ fn operand_e(kind: Kind, operand: Operand) -> OperandE
     }
 }
 
-/// The numbers that operands ask for in a row with this kind of operand E, where they ask for this slot by slot.
-pub fn operand_fields(kind: Kind, layout: &RowLayout, asked: &Asked) -> OperandFields
-    requires group { ForSome layout.now.group (λ group. group < 8) }
-    requires e { IsPlaced (kind_seen kind) layout.now.index_bank (operand_meaning asked.now.e) }
-    ensures numbers { (m : Meaning) → IsAsked layout.now.slots.items m.operands asked.now
-        → HasNumbers (kind_seen kind) layout.now m result }
+/// The numbers that operands ask for in a row with this kind of operand E and this reg field of a group, where they ask
+/// for this slot by slot.
+#[inline(always)]
+pub fn operand_fields(kind: Kind, group: Option<u8>, asked: &Asked) -> OperandFields
+    requires group { ForSome group (λ group. group < 8) }
+    requires e { (bank : RegisterBank) × IsPlaced (kind_seen kind) bank (operand_meaning asked.now.e) }
+    ensures numbers { (row : Row) (m : Meaning) → row.kind ≡ kind_seen kind → row.group ≡ group
+        → IsAsked (slots row) m.operands asked.now → HasNumbers row m result }
     ensures placed { CanBePlaced (is_vector (kind_seen kind)) result.e }
 {
     OperandFields {
         r: asked.g / 8 % 2 == 1,
         vvvv: asked.v % 16,
-        reg: layout.group.unwrap_or(asked.g % 8),
+        reg: group.unwrap_or(asked.g % 8),
         e: operand_e(kind, asked.e),
         imm: asked.imm,
     }

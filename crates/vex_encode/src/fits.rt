@@ -2,8 +2,8 @@
 
 ghost use Rattle.std.specs.Prelude.{◌≡◌, ◌↔◌, ◌≤◌, IsSome, IfSome, IsTrue};
 ghost use Rattle.x86_operand.specs.Meaning.{operand_meaning};
-ghost use Rattle.vex_rows.specs.Row.{Row};
-ghost use Rattle.vex_forms.specs.Layout.{IsLayout};
+ghost use Rattle.vex_forms.specs.Layout.{chosen};
+ghost use Rattle.vex_forms.specs.Slots.{slots};
 ghost use Rattle.vex_encode.specs.Assembly.{IsAddressOf, IsAsked, IsRegisterOf};
 ghost use Rattle.vex_encode.specs.Kind.{kind_seen};
 ghost use Rattle.vex_encode.specs.Conditions.{AddressFits, CanGive, PlacedFits, RegisterFits, SlotBaseFits};
@@ -11,7 +11,7 @@ ghost use Rattle.vex_encode.specs.Conditions.{SlotIndexFits};
 
 use crate::kind::Kind;
 use crate::operand_walk::{Asked, operands_asked};
-use vex_forms::RowLayout;
+use vex_forms::Choice;
 use x86_operand::{Address, Index, Instruction, Operand, RegSpec, RegisterBank};
 
 /// Whether a register is one of the sixteen of a bank that a prefix can name.
@@ -95,24 +95,23 @@ pub fn placed_fits(
     }
 }
 
-/// What the operands of an instruction ask for, where the row of a layout, with this kind of operand E, can give it.
+/// What the operands of an instruction ask for, where the row that is chosen, with this kind of operand E, can give it.
+/// The opcode comes last: it is the row's but where that goes by a group or the kind.
 #[tactic(auto, unfolding(vex_rows::specs::Row::mark_of))]
 #[inline(always)]
-pub fn given(kind: Kind, layout: &RowLayout, instruction: &Instruction) -> Option<Asked>
-    ensures gives { (row : Row) → IsLayout row layout.now → row.kind ≡ kind_seen kind
-        → (IsSome result ↔ CanGive row instruction.now.meaning) }
-    ensures asked { IfSome result (IsAsked layout.now.slots.items instruction.now.meaning.operands) }
+pub fn given(kind: Kind, choice: &Choice, instruction: &Instruction) -> Option<Asked>
+    requires { (chosen choice.now).kind ≡ kind_seen kind }
+    ensures gives { IsSome result ↔ CanGive (chosen choice.now) instruction.now.meaning }
+    ensures asked { IfSome result (IsAsked (slots (chosen choice.now)) instruction.now.meaning.operands) }
 {
-    if instruction.is_evex()
-        || !instruction.opcode().is(layout.opcode)
-        || instruction.mem_size() != layout.mem_size
-    {
+    if instruction.is_evex() || instruction.mem_size() != choice.memory_size() {
         return None;
     }
-    operands_asked(
-        kind,
-        layout.index_bank,
-        layout.slots.as_slice(),
-        instruction,
-    )
+    let slots = choice.slots();
+    let asked = operands_asked(kind, choice.index_bank(), slots.as_slice(), instruction)?;
+    if instruction.opcode().is(choice.opcode()) {
+        Some(asked)
+    } else {
+        None
+    }
 }

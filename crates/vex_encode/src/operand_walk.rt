@@ -100,6 +100,7 @@ impl Asked {
 
     /// Adds what the operand at a place asks for, which stands with its slot before the others. Answers whether it can
     /// stand there.
+    #[inline(always)]
     fn put_before(
         &mut self,
         kind: Kind,
@@ -139,6 +140,7 @@ impl Asked {
 }
 
 /// What the operands of an instruction ask for, where there are as many as slots, and each can stand at its slot.
+#[inline(always)]
 pub fn operands_asked(
     kind: Kind,
     index_bank: RegisterBank,
