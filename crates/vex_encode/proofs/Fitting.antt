@@ -1,5 +1,5 @@
 -- Operands that fit their slots, place by place, and the address among them.
-use Rattle.std.specs.Prelude.{◌≡◌, refl, ℕ, ◌+◌, ◌<◌, true, List, [], ◌∷◌, length, drop, slice_index_or}
+use Rattle.std.specs.Prelude.{◌≡◌, refl, ℕ, ◌+◌, ◌<◌, ◌≤◌, true, List, [], ◌∷◌, length, drop, slice_index_or}
 use Rattle.std.specs.List.{list_any}
 use Rattle.std.proofs.Common.{zero, suc, get_or, add-one, arith}
 use Rattle.x86_operand.specs.declared.register.RegisterBank.{RegisterBank}
@@ -66,26 +66,33 @@ module _ (kind : Kind) (index_bank : RegisterBank) where
   fit_end (x ∷ slots) (o ∷ operands) (suc i) h e = fit_end slots operands i (omega arith) (omega arith)
 
 -- what operands ask for from a place on, by the one there and those after it
-pub asked_here : (slots : List Slot) (operands : List OperandMeaning) (i : ℕ) (s : Slot) (asked : Asked)
-    → i < length slots → length operands ≡ length slots →
-    IsAsked (get_or slots i s ∷ drop (i + 1) slots) (slice_index_or operands i nothing ∷ drop (i + 1) operands) asked
-    → IsAsked (drop i slots) (drop i operands) asked
-asked_here [] operands i s asked h e is = absurd (omega arith)
-asked_here (x ∷ slots) [] i s asked h e is = absurd (omega arith)
-asked_here (x ∷ slots) (o ∷ operands) zero s asked h e is = is
-asked_here (x ∷ slots) (o ∷ operands) (suc i) s asked h e is =
-    asked_here slots operands i s asked (omega arith) (omega arith) (rw add-one (rw add-one at is))
+pub asked_here : (all : List OperandMeaning) (slots : List Slot) (operands : List OperandMeaning) (i : ℕ) (s : Slot)
+    (asked : Asked) → i < length slots → length operands ≡ length slots →
+    IsAsked all (get_or slots i s ∷ drop (i + 1) slots) (slice_index_or operands i nothing ∷ drop (i + 1) operands)
+    asked → IsAsked all (drop i slots) (drop i operands) asked
+asked_here all [] operands i s asked h e is = absurd (omega arith)
+asked_here all (x ∷ slots) [] i s asked h e is = absurd (omega arith)
+asked_here all (x ∷ slots) (o ∷ operands) zero s asked h e is = is
+asked_here all (x ∷ slots) (o ∷ operands) (suc i) s asked h e is =
+    asked_here all slots operands i s asked (omega arith) (omega arith) (rw add-one (rw add-one at is))
 
 -- past the last they ask for nothing
-pub asked_end : (slots : List Slot) (operands : List OperandMeaning) (i : ℕ) (asked : Asked) → i ≡ length slots
-    → length operands ≡ length slots → IsAsked [] [] asked → IsAsked (drop i slots) (drop i operands) asked
-asked_end [] [] zero asked h e is = is
-asked_end [] [] (suc i) asked h e is = is
-asked_end [] (o ∷ operands) i asked h e is = absurd (omega arith)
-asked_end (x ∷ slots) [] i asked h e is = absurd (omega arith)
-asked_end (x ∷ slots) (o ∷ operands) zero asked h e is = absurd (omega arith)
-asked_end (x ∷ slots) (o ∷ operands) (suc i) asked h e is =
-    asked_end slots operands i asked (omega arith) (omega arith) is
+pub asked_end : (all : List OperandMeaning) (slots : List Slot) (operands : List OperandMeaning) (i : ℕ)
+    (asked : Asked) → i ≡ length slots → length operands ≡ length slots → IsAsked all [] [] asked
+    → IsAsked all (drop i slots) (drop i operands) asked
+asked_end all [] [] zero asked h e is = is
+asked_end all [] [] (suc i) asked h e is = is
+asked_end all [] (o ∷ operands) i asked h e is = absurd (omega arith)
+asked_end all (x ∷ slots) [] i asked h e is = absurd (omega arith)
+asked_end all (x ∷ slots) (o ∷ operands) zero asked h e is = absurd (omega arith)
+asked_end all (x ∷ slots) (o ∷ operands) (suc i) asked h e is =
+    asked_end all slots operands i asked (omega arith) (omega arith) is
+
+-- no operand stands past the last
+pub past_end : (operands : List OperandMeaning) (i : ℕ) → length operands ≤ i → slice_index_or operands i nothing ≡ nothing
+past_end [] i h = refl
+past_end (o ∷ operands) zero h = absurd (omega arith)
+past_end (o ∷ operands) (suc i) h = past_end operands i (omega arith)
 
 address_placed : (kind : Kind) (index_bank bank : RegisterBank) (operand : OperandMeaning)
     → PlacedFits kind index_bank bank operand → IsPlaced kind index_bank operand

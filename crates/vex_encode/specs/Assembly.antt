@@ -3,7 +3,8 @@ use Rattle.std.specs.Prelude.{◌≡◌, ℕ, ◌+◌, ◌*◌, ◌/◌, ◌%◌
 use Rattle.std.specs.Prelude.{if◌then◌else◌}
 use Rattle.x86_operand.specs.declared.register.RegisterBank.{RegisterBank}
 use Rattle.x86_operand.specs.Kind.{Kind, WithoutModRM, InRegister, InMemory, VectorIndexed}
-use Rattle.x86_operand.specs.Meaning.{OperandMeaning, register, memory, Meaning, operand_meaning}
+use Rattle.x86_operand.specs.Instruction.{operand_at}
+use Rattle.x86_operand.specs.Meaning.{OperandMeaning, register, memory, Meaning}
 use Rattle.x86_address.specs.Place.{Target}
 use Rattle.x86_operand.specs.declared.register.RegisterBank.TheVariants.{Q}
 use Rattle.x86_operand.specs.declared.address.Address.{Address}
@@ -20,11 +21,12 @@ use Rattle.vex_encode.specs.declared.operand_walk.Asked.{Asked}
 use Rattle.vex_encode.specs.Standard.{operand_of_kind, number_of, imm_of, target_of}
 use Rattle.vex_encode.specs.Conditions.{RegisterFits, AddressFits}
 
--- what operands ask for, each by the first slot of its kind
-pub record IsAsked (slots : List Slot) (operands : List OperandMeaning) (asked : Asked) : Type 0 where
+-- what operands ask for, each by the first slot of its kind; the one at the slot of E is named by its place among all
+pub record IsAsked (all : List OperandMeaning) (slots : List Slot) (operands : List OperandMeaning) (asked : Asked)
+    : Type 0 where
   pub g : asked.g ≡ number_of (operand_of_kind names_g slots operands)
   pub v : asked.v ≡ number_of (operand_of_kind names_v slots operands)
-  pub e : operand_meaning asked.e ≡ operand_of_kind names_e slots operands
+  pub e : operand_at all asked.e ≡ operand_of_kind names_e slots operands
   pub imm : asked.imm ≡ imm_of (operand_of_kind names_imm slots operands)
 
 -- the number that the operand at the slot of the field reg has

@@ -2,6 +2,7 @@
 
 ghost use Rattle.std.specs.Prelude.{◌≡◌, ◌≤◌, ◌<◌, Bool, length};
 ghost use Rattle.std.specs.Option.{ForSome};
+ghost use Rattle.x86_operand.specs.Instruction.{operand_at};
 ghost use Rattle.x86_operand.specs.Kind.{is_vector};
 ghost use Rattle.x86_operand.specs.Meaning.{Meaning, memory, operand_meaning};
 ghost use Rattle.x86_operand.specs.declared.register.RegisterBank.{RegisterBank};
@@ -90,20 +91,21 @@ fn operand_e(kind: Kind, operand: Operand) -> OperandE
 }
 
 /// The numbers that operands ask for in a row with this kind of operand E and this reg field of a group, where they ask
-/// for this slot by slot.
+/// for this slot by slot, and `e` is the operand at the slot of E.
 #[inline(always)]
-pub fn operand_fields(kind: Kind, group: Option<u8>, asked: &Asked) -> OperandFields
+pub fn operand_fields(kind: Kind, group: Option<u8>, asked: Asked, e: Operand) -> OperandFields
     requires group { ForSome group (λ group. group < 8) }
-    requires e { (bank : RegisterBank) × IsPlaced (kind_seen kind) bank (operand_meaning asked.now.e) }
+    requires e { (bank : RegisterBank) × IsPlaced (kind_seen kind) bank (operand_meaning e) }
     ensures numbers { (row : Row) (m : Meaning) → row.kind ≡ kind_seen kind → row.group ≡ group
-        → IsAsked (slots row) m.operands asked.now → HasNumbers row m result }
+        → operand_meaning e ≡ operand_at m.operands asked.e → IsAsked m.operands (slots row) m.operands asked
+        → HasNumbers row m result }
     ensures placed { CanBePlaced (is_vector (kind_seen kind)) result.e }
 {
     OperandFields {
         r: asked.g / 8 % 2 == 1,
         vvvv: asked.v % 16,
         reg: group.unwrap_or(asked.g % 8),
-        e: operand_e(kind, asked.e),
+        e: operand_e(kind, e),
         imm: asked.imm,
     }
 }

@@ -3,7 +3,8 @@
 ghost use Rattle.std.specs.Prelude.{ℕ, ◌≡◌, ◌+◌, ◌<◌, ◌≤◌, ◌==◌, false, true, length, flat_map, if◌then◌else◌};
 ghost use Rattle.std.specs.List.{list_any};
 ghost use Rattle.std.specs.Option.{ForSome};
-ghost use Rattle.x86_operand.specs.Meaning.{Meaning, operand_meaning};
+ghost use Rattle.x86_operand.specs.Instruction.{operand_at};
+ghost use Rattle.x86_operand.specs.Meaning.{operand_meaning};
 ghost use Rattle.x86_operand.specs.declared.register.RegisterBank.{RegisterBank};
 ghost use Rattle.vex_rows.specs.declared.entry.Entry.{Entry};
 ghost use Rattle.vex_rows.specs.Row.{Among, choices, choices_of_l, choices_of_w};
@@ -54,14 +55,16 @@ fn has_address(instruction: &Instruction) -> bool
 
 /// The spelling of an instruction by a row that can give it, where its operands ask for this.
 #[inline(never)]
-fn spelling_by(choice: &Choice, kind: Kind, asked: &Asked) -> Spelling
+fn spelling_by(choice: &Choice, kind: Kind, asked: Asked, instruction: &Instruction) -> Spelling
     requires kind { (chosen choice.now).kind ≡ kind_seen kind }
     requires group { ForSome choice.now.group (λ group. group < 8) }
-    requires e { (bank : RegisterBank) × IsPlaced (kind_seen kind) bank (operand_meaning asked.now.e) }
-    ensures { (m : Meaning) → IsAsked (slots (chosen choice.now)) m.operands asked.now
-        → result ≡ bytes_of (chosen choice.now) (candidate (chosen choice.now) m) }
+    requires e { (bank : RegisterBank)
+        × IsPlaced (kind_seen kind) bank (operand_at instruction.now.meaning.operands asked.e) }
+    ensures { IsAsked instruction.now.meaning.operands (slots (chosen choice.now)) instruction.now.meaning.operands
+        asked → result ≡ bytes_of (chosen choice.now) (candidate (chosen choice.now) instruction.now.meaning) }
 {
-    let numbers = operand_fields(kind, choice.group, asked);
+    let e = instruction.operand(asked.e);
+    let numbers = operand_fields(kind, choice.group, asked, e);
     let place = place_of(kind.is_vector(), numbers.e);
     let prefix = Prefix {
         map: choice.entry.map,
@@ -107,7 +110,7 @@ fn standard(
     let choice = Choice::of(entry, w, l, memory, group);
     let kind = Kind::of(&choice);
     match given(kind, &choice, instruction) {
-        Some(asked) => Some(spelling_by(&choice, kind, &asked)),
+        Some(asked) => Some(spelling_by(&choice, kind, asked, instruction)),
         None => None,
     }
 }
@@ -232,20 +235,14 @@ fn standard_by_entry(entry: &Entry, memory: bool, instruction: &Instruction) -> 
     standard_by_l(entry, true, memory, instruction)
 }
 
-/// The shorter of two spellings that may be missing, the first where both are equally long.
-fn shorter(first: Option<Spelling>, second: Option<Spelling>) -> Option<Spelling>
-    ensures { result ≡ shorter_of first second }
+/// Whether a spelling is there, and another isn't or is longer.
+fn is_shorter(spelling: &Option<Spelling>, other: &Option<Spelling>) -> bool
+    ensures { (if result then spelling.now else other.now) ≡ shorter_of other.now spelling.now }
 {
-    match (first, second) {
-        (None, second) => second,
-        (first, None) => first,
-        (Some(first), Some(second)) => {
-            if first.as_slice().len() <= second.as_slice().len() {
-                Some(first)
-            } else {
-                Some(second)
-            }
-        }
+    match (spelling, other) {
+        (None, _) => false,
+        (Some(_), None) => true,
+        (Some(spelling), Some(other)) => spelling.as_slice().len() < other.as_slice().len(),
     }
 }
 
@@ -259,7 +256,9 @@ fn standard_by_entries(entries: &[Entry], instruction: &Instruction) -> Option<S
     let mut shortest = None;
     for entry in entries {
         let found = standard_by_entry(entry, memory, instruction);
-        shortest = shorter(shortest, found);
+        if is_shorter(&found, &shortest) {
+            shortest = found;
+        }
     }
     shortest
 }

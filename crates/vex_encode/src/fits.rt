@@ -102,7 +102,8 @@ pub fn placed_fits(
 pub fn given(kind: Kind, choice: &Choice, instruction: &Instruction) -> Option<Asked>
     requires { (chosen choice.now).kind ≡ kind_seen kind }
     ensures gives { IsSome result ↔ CanGive (chosen choice.now) instruction.now.meaning }
-    ensures asked { IfSome result (IsAsked (slots (chosen choice.now)) instruction.now.meaning.operands) }
+    ensures asked { IfSome result (IsAsked instruction.now.meaning.operands (slots (chosen choice.now))
+        instruction.now.meaning.operands) }
 {
     if instruction.is_evex() || instruction.mem_size() != choice.memory_size() {
         return None;

@@ -34,7 +34,7 @@ returns-in-Some c =
     let is = sym c.of-choice.ensures.row in
     standard_given (chosen c.of-choice.result) m c.spelling_by.result (subst IsRow is is_row)
     (ap exists (sym is) ∙ there) (c.in-Some.ensures.gives.0 refl)
-    (c.spelling_by.ensures m c.in-Some.ensures.asked) ∙ ap (λ row. standard_of row m) (sym is)
+    (c.spelling_by.ensures c.in-Some.ensures.asked) ∙ ap (λ row. standard_of row m) (sym is)
 
 pub returns-in-None : goal.returns-in-None
 returns-in-None c =
