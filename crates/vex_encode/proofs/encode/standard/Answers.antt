@@ -18,11 +18,13 @@ spelling_by-requires-clause-group c = chosen_group _ _ _ _ _ _ c.of-choice.ensur
 
 pub spelling_by-requires-clause-e : goal.spelling_by-requires-clause-e
 spelling_by-requires-clause-e c =
-    let choice = c.of-choice.result in
-    (index_bank (chosen choice), subst (IsPlaced (kind_seen c.of-kind.result) (index_bank (chosen choice)))
-    (sym c.in-Some.ensures.asked.e)
-    (chosen_placed choice (kind_seen c.of-kind.result) c.args.instruction.now.meaning c.of-kind.ensures
-    (c.in-Some.ensures.gives.0 refl)))
+    let choice = c.of-choice.result in (
+      index_bank (chosen choice),
+      subst (IsPlaced (kind_seen c.of-kind.result) (index_bank (chosen choice)))
+          (sym c.in-Some.ensures.asked.e)
+          (chosen_placed choice (kind_seen c.of-kind.result) c.args.instruction.now.meaning c.of-kind.ensures
+          (c.in-Some.ensures.gives.0 refl)),
+    )
 
 pub returns-in-Some : goal.returns-in-Some
 returns-in-Some c =

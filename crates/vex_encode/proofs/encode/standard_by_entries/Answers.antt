@@ -14,10 +14,10 @@ standard_by_entry-found-requires-clause-listed c =
 pub loop-entry-preserved : goal.loop-entry-preserved
 loop-entry-preserved c =
     elim c.if-is_shorter.branch [
-      then-is_shorter w ↦ w.shortest-is
+      | then-is_shorter w ↦ w.shortest-is
           ∙ ap (λ b. if b then c.standard_by_entry-found.result else c.loop-entry.shortest) (sym w.if-is_shorter.true)
           ∙ c.is_shorter.ensures
-    | else-is_shorter w ↦ w.shortest-is
+      | else-is_shorter w ↦ w.shortest-is
           ∙ ap (λ b. if b then c.standard_by_entry-found.result else c.loop-entry.shortest) (sym w.if-is_shorter.false)
           ∙ c.is_shorter.ensures
     ]
