@@ -39,7 +39,6 @@ use Rattle.vex_decode.specs.Fields.{C4, C5, prefix_bytes, fits_two_bytes, shorte
 use Rattle.vex_decode.specs.Spelling.{bytes_of, meant, imm_bytes}
 use Rattle.vex_encode.specs.Standard.{operand_of_kind, target_of, candidate, is_placed, is_given, standard}
 use Rattle.vex_encode.specs.Encode.{standard_of, first_of, first, is_address, best}
-use Rattle.vex_encode.specs.Assembly.{kind_by}
 use Rattle.vex_encode.specs.Conditions.{CanGive}
 use Rattle.vex_encode.proofs.Conditions.{fits_given, standard_is_some}
 use Rattle.vex_encode.proofs.Standard.{kind_asked, bytes_length, imm_length}
@@ -480,18 +479,6 @@ no_row entry w l memory group m is never = by (exists (row_for entry w l memory 
       sym (other_kind (row_for entry w l memory group) m among (λ k. let wrong : true ≡ false = sym parts.1 ∙ is ∙ k ∙ kind in cc))
 
 -- ---- a choice that is one
-
--- its kind, by whether the index of its address is a vector register
-pub kind_chosen : (form : Form) (memory : Bool)
-    → kind_by (is_vector (kind_for form memory)) (steps form).modrm memory ≡ kind_for form memory
-kind_chosen form memory = by (gathers form) (steps form).modrm memory where
-  by : (vector modrm memory : Bool) → kind_by
-      (is_vector (if modrm then (if memory then memory_kind vector else InRegister) else WithoutModRM)) modrm memory
-      ≡ (if modrm then (if memory then memory_kind vector else InRegister) else WithoutModRM)
-  by true true true = refl
-  by false true true = refl
-  by vector true false = refl
-  by vector false memory = refl
 
 pub first_true : (a b : Bool) → IsTrue (a && b) → a ≡ true
 first_true true b h = refl

@@ -1,16 +1,17 @@
 -- Operands that fit their slots, place by place, and the address among them.
-use Rattle.std.specs.Prelude.{◌≡◌, refl, ℕ, ◌+◌, ◌<◌, true, List, [], ◌∷◌, length, drop, slice_index_or}
+use Rattle.std.specs.Prelude.{◌≡◌, refl, ℕ, ◌+◌, ◌<◌, ◌≤◌, true, List, [], ◌∷◌, length, drop, slice_index_or}
 use Rattle.std.specs.List.{list_any}
 use Rattle.std.proofs.Common.{zero, suc, get_or, add-one, arith}
 use Rattle.x86_operand.specs.declared.register.RegisterBank.{RegisterBank}
 use Rattle.x86_operand.specs.Kind.{Kind, WithoutModRM, InRegister, InMemory, VectorIndexed}
-use Rattle.x86_operand.specs.Meaning.{OperandMeaning, memory, nothing}
+use Rattle.x86_operand.specs.Instruction.{operand_at}
+use Rattle.x86_operand.specs.Meaning.{OperandMeaning, register, memory, nothing}
 use Rattle.vex_rows.specs.Row.{is_memory}
 use Rattle.vex_forms.specs.declared.slot.Slot.{Slot}
 use Rattle.vex_forms.specs.declared.slot.Slot.TheVariants.{G, V, E, U8, I8, R4}
 use Rattle.vex_forms.specs.Slots.{names_e}
 use Rattle.vex_encode.specs.declared.operand_walk.Asked.{Asked}
-use Rattle.vex_encode.specs.Assembly.{IsAsked, IsPlaced}
+use Rattle.vex_encode.specs.Assembly.{IsAsked, IsPlaced, IsRegisterOf}
 use Rattle.vex_encode.specs.Conditions.{PlacedFits, OperandFits, OperandsFit}
 use Rattle.vex_encode.specs.Standard.{operand_of_kind}
 
@@ -66,26 +67,33 @@ module _ (kind : Kind) (index_bank : RegisterBank) where
   fit_end (x ∷ slots) (o ∷ operands) (suc i) h e = fit_end slots operands i (omega arith) (omega arith)
 
 -- what operands ask for from a place on, by the one there and those after it
-pub asked_here : (slots : List Slot) (operands : List OperandMeaning) (i : ℕ) (s : Slot) (asked : Asked)
-    → i < length slots → length operands ≡ length slots →
-    IsAsked (get_or slots i s ∷ drop (i + 1) slots) (slice_index_or operands i nothing ∷ drop (i + 1) operands) asked
-    → IsAsked (drop i slots) (drop i operands) asked
-asked_here [] operands i s asked h e is = absurd (omega arith)
-asked_here (x ∷ slots) [] i s asked h e is = absurd (omega arith)
-asked_here (x ∷ slots) (o ∷ operands) zero s asked h e is = is
-asked_here (x ∷ slots) (o ∷ operands) (suc i) s asked h e is =
-    asked_here slots operands i s asked (omega arith) (omega arith) (rw add-one (rw add-one at is))
+pub asked_here : (all : List OperandMeaning) (slots : List Slot) (operands : List OperandMeaning) (i : ℕ) (s : Slot)
+    (asked : Asked) → i < length slots → length operands ≡ length slots →
+    IsAsked all (get_or slots i s ∷ drop (i + 1) slots) (slice_index_or operands i nothing ∷ drop (i + 1) operands)
+    asked → IsAsked all (drop i slots) (drop i operands) asked
+asked_here all [] operands i s asked h e is = absurd (omega arith)
+asked_here all (x ∷ slots) [] i s asked h e is = absurd (omega arith)
+asked_here all (x ∷ slots) (o ∷ operands) zero s asked h e is = is
+asked_here all (x ∷ slots) (o ∷ operands) (suc i) s asked h e is =
+    asked_here all slots operands i s asked (omega arith) (omega arith) (rw add-one (rw add-one at is))
 
 -- past the last they ask for nothing
-pub asked_end : (slots : List Slot) (operands : List OperandMeaning) (i : ℕ) (asked : Asked) → i ≡ length slots
-    → length operands ≡ length slots → IsAsked [] [] asked → IsAsked (drop i slots) (drop i operands) asked
-asked_end [] [] zero asked h e is = is
-asked_end [] [] (suc i) asked h e is = is
-asked_end [] (o ∷ operands) i asked h e is = absurd (omega arith)
-asked_end (x ∷ slots) [] i asked h e is = absurd (omega arith)
-asked_end (x ∷ slots) (o ∷ operands) zero asked h e is = absurd (omega arith)
-asked_end (x ∷ slots) (o ∷ operands) (suc i) asked h e is =
-    asked_end slots operands i asked (omega arith) (omega arith) is
+pub asked_end : (all : List OperandMeaning) (slots : List Slot) (operands : List OperandMeaning) (i : ℕ)
+    (asked : Asked) → i ≡ length slots → length operands ≡ length slots → IsAsked all [] [] asked
+    → IsAsked all (drop i slots) (drop i operands) asked
+asked_end all [] [] zero asked h e is = is
+asked_end all [] [] (suc i) asked h e is = is
+asked_end all [] (o ∷ operands) i asked h e is = absurd (omega arith)
+asked_end all (x ∷ slots) [] i asked h e is = absurd (omega arith)
+asked_end all (x ∷ slots) (o ∷ operands) zero asked h e is = absurd (omega arith)
+asked_end all (x ∷ slots) (o ∷ operands) (suc i) asked h e is =
+    asked_end all slots operands i asked (omega arith) (omega arith) is
+
+-- no operand stands past the last
+pub past_end : (operands : List OperandMeaning) (i : ℕ) → length operands ≤ i → slice_index_or operands i nothing ≡ nothing
+past_end [] i h = refl
+past_end (o ∷ operands) zero h = absurd (omega arith)
+past_end (o ∷ operands) (suc i) h = past_end operands i (omega arith)
 
 address_placed : (kind : Kind) (index_bank bank : RegisterBank) (operand : OperandMeaning)
     → PlacedFits kind index_bank bank operand → IsPlaced kind index_bank operand
@@ -121,3 +129,17 @@ placed InRegister index_bank slots operands fit named = tt
 placed InMemory index_bank slots operands fit named = placed_memory InMemory index_bank slots operands fit (named refl)
 placed VectorIndexed index_bank slots operands fit named =
     placed_memory VectorIndexed index_bank slots operands fit (named refl)
+
+-- the operand at a first slot of the field reg is a register of its bank
+pub first_register : (kind : Kind) (index_bank bank : RegisterBank) (slots : List Slot) (operands : List OperandMeaning)
+    → OperandsFit kind index_bank (G bank ∷ slots) operands → IsRegisterOf bank (operand_at operands 0)
+first_register kind index_bank bank slots [] fit = absurd fit
+first_register kind index_bank bank slots (register reg ∷ operands) fit = fit.0
+first_register kind index_bank bank slots (_ ∷ operands) fit = absurd fit.0
+
+-- so is that at a first slot of the operand E, in a register row
+pub first_e : (index_bank bank : RegisterBank) (slots : List Slot) (operands : List OperandMeaning)
+    → OperandsFit InRegister index_bank (E bank ∷ slots) operands → IsRegisterOf bank (operand_at operands 0)
+first_e index_bank bank slots [] fit = absurd fit
+first_e index_bank bank slots (register reg ∷ operands) fit = fit.0
+first_e index_bank bank slots (_ ∷ operands) fit = absurd fit.0

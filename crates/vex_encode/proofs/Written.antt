@@ -10,20 +10,20 @@ use Rattle.x86_address.specs.Place.{Place, NoPlace, Direct, Based, RipBased, Sca
 use Rattle.x86_address.specs.Shortest.{shortest, x_of, b_of}
 use Rattle.x86_address.specs.declared.encode.AddressBytes.{AddressBytes}
 use Rattle.vex_rows.specs.declared.key.Prefix.{Prefix}
-use Rattle.vex_rows.specs.Row.{has_groups, is_memory}
+use Rattle.vex_rows.specs.declared.entry.Entry.{Entry}
+use Rattle.vex_rows.specs.Row.{Row, has_groups, has_imm, is_memory}
 use Rattle.vex_rows.specs.FormRows.{gathers}
 use Rattle.vex_rows.specs.Steps.{steps}
 use Rattle.vex_forms.specs.declared.operand_fields.OperandFields.{OperandFields}
-use Rattle.vex_forms.specs.declared.row_layout.RowLayout.{RowLayout}
-use Rattle.vex_forms.specs.Slots.{slots, names_g, names_v, names_e, names_imm}
-use Rattle.vex_forms.specs.Layout.{IsLayout}
+use Rattle.vex_forms.specs.declared.choice.Choice.{Choice}
+use Rattle.vex_forms.specs.Slots.{slots, index_bank}
+use Rattle.vex_forms.specs.Layout.{chosen, row_for}
 use Rattle.vex_forms.specs.Fields.{fields_of}
 use Rattle.vex_forms.specs.Operands.{target_seen}
 use Rattle.vex_decode.specs.Fields.{prefix_bytes, shortest_form}
 use Rattle.vex_decode.specs.Spelling.{bytes_of, imm_bytes}
-use Rattle.vex_encode.specs.declared.row_choice.RowChoice.{RowChoice}
-use Rattle.vex_encode.specs.Standard.{operand_of_kind, number_of, imm_of, target_of, reg_for, candidate}
-use Rattle.vex_encode.specs.Assembly.{HasNumbers, IsPlaced, row_chosen, with_reg, operand_at_e}
+use Rattle.vex_encode.specs.Standard.{reg_for, candidate}
+use Rattle.vex_encode.specs.Assembly.{HasNumbers, IsPlaced, with_reg, g_of, operand_at_e}
 use Rattle.vex_encode.specs.Conditions.{CanGive}
 use Rattle.vex_encode.proofs.Entries.{with_e}
 use Rattle.vex_encode.proofs.Fitting.{placed}
@@ -61,25 +61,25 @@ group_small : (has : Bool) (group n : ℕ) → group < 8 → (if has then Some g
 group_small true group n h e = let same : group ≡ n = cc in omega (arith, same)
 group_small false group n h e = cc
 
-module _ (choice : RowChoice) (layout : RowLayout) (is : IsLayout (row_chosen choice) layout) where
-  -- a group is a value of three bits
-  pub layout_group : choice.group < 8 → ForSome layout.group (λ group. group < 8)
-  layout_group small = λ n e. group_small (has_groups choice.entry.form) choice.group n small (sym is.group ∙ e)
+-- a group is a value of three bits
+pub chosen_group : (choice : Choice) (entry : Entry) (w l memory : Bool) (group : ℕ)
+    → chosen choice ≡ row_for entry w l memory group → group < 8 → ForSome choice.group (λ group. group < 8)
+chosen_group choice entry w l memory group is small = λ n e.
+    group_small (has_groups entry.form) group n small (sym (ap (λ (row : Row). row.group) is) ∙ e)
 
+module _ (choice : Choice) where
   -- the operand E is an address that fits
-  pub layout_placed : (kind : Kind) (m : Meaning) → (row_chosen choice).kind ≡ kind → CanGive (row_chosen choice) m
-      → IsPlaced kind layout.index_bank (operand_at_e layout m)
+  pub chosen_placed : (kind : Kind) (m : Meaning) → (chosen choice).kind ≡ kind → CanGive (chosen choice) m
+      → IsPlaced kind (index_bank (chosen choice)) (operand_at_e (chosen choice) m)
   unfolding slots
-  layout_placed kind m k gives =
-      let row = row_chosen choice in
-      let fits = placed row.kind _ (slots row) m.operands gives.operands
+  chosen_placed kind m k gives =
+      let row = chosen choice in
+      subst (λ kind. IsPlaced kind (index_bank row) (operand_at_e row m)) k
+      (placed row.kind _ (slots row) m.operands gives.operands
       (λ memory. with_e row.entry.form row
-      (memory_modrm (gathers choice.entry.form) (steps choice.entry.form).modrm choice.memory memory)) in
-      subst (λ kind. IsPlaced kind layout.index_bank (operand_at_e layout m)) k
-      (rw (is.index_bank, is.slots) fits)
+      (memory_modrm (gathers choice.entry.form) (steps choice.entry.form).modrm choice.memory memory)))
 
-  module _ (kind : Kind) (m : Meaning) (numbers : OperandFields) (place : AddressBytes)
-      (k : (row_chosen choice).kind ≡ kind) (has : HasNumbers kind layout m numbers)
+  module _ (m : Meaning) (numbers : OperandFields) (place : AddressBytes) (has : HasNumbers (chosen choice) m numbers)
       (bytes : place.bytes.items ≡ place_bytes 0 (shortest (target_seen numbers.e)))
       (x : place.x ≡ x_of (target_seen numbers.e)) (b : place.b ≡ b_of (target_seen numbers.e)) where
     abbrev pub prefix : Prefix
@@ -95,23 +95,13 @@ module _ (choice : RowChoice) (layout : RowLayout) (is : IsLayout (row_chosen ch
       vvvv = numbers.vvvv;
     }
 
-    asked : target_of kind (operand_of_kind names_e layout.slots.items m.operands)
-        ≡ target_of (row_chosen choice).kind (operand_of_kind names_e (slots (row_chosen choice)) m.operands)
-    asked = ap₂ (λ kind slots. target_of kind (operand_of_kind names_e slots m.operands)) (sym k) is.slots
-
-    fields_made : fields_of prefix ≡ (candidate (row_chosen choice) m).fields
+    fields_made : fields_of prefix ≡ (candidate (chosen choice) m).fields
     unfolding candidate
     fields_made =
-        let g = number_of (operand_of_kind names_g layout.slots.items m.operands) in
-        let r : bit numbers.r ≡ (number_of (operand_of_kind names_g (slots (row_chosen choice)) m.operands) / 8) % 2 =
-        ap bit has.r ∙ bit_again ((g / 8) % 2) (omega arith)
-        ∙ ap (λ s. (number_of (operand_of_kind names_g s m.operands) / 8) % 2) is.slots in
-        let v : numbers.vvvv ≡ number_of (operand_of_kind names_v (slots (row_chosen choice)) m.operands) % 16 =
-        has.vvvv ∙ ap (λ s. number_of (operand_of_kind names_v s m.operands) % 16) is.slots in
-        let x_is : place.x ≡ x_of (target_of (row_chosen choice).kind
-        (operand_of_kind names_e (slots (row_chosen choice)) m.operands)) = x ∙ has.e.x ∙ ap x_of asked in
-        let b_is : place.b ≡ b_of (target_of (row_chosen choice).kind
-        (operand_of_kind names_e (slots (row_chosen choice)) m.operands)) = b ∙ has.e.b ∙ ap b_of asked in
+        let g = g_of (chosen choice) m in
+        let r : bit numbers.r ≡ (g / 8) % 2 = ap bit has.r ∙ bit_again ((g / 8) % 2) (omega arith) in
+        let x_is = x ∙ has.e.x in
+        let b_is = b ∙ has.e.b in
         let l : bit choice.l ≡ (if choice.l then 1 else 0) = l_seen choice.l in
         λ i. record {
           map = choice.entry.map;
@@ -122,35 +112,35 @@ module _ (choice : RowChoice) (layout : RowLayout) (is : IsLayout (row_chosen ch
           x = x_is i;
           b =
               b_is i;
-          v = v i;
+          v = has.vvvv i;
         }
 
-    reg_is : numbers.reg ≡ (candidate (row_chosen choice) m).reg
+    reg_is : numbers.reg ≡ (candidate (chosen choice) m).reg
     unfolding candidate
-    reg_is = has.reg ∙ ap₂ (λ group s. unwrap_or group (number_of (operand_of_kind names_g s m.operands) % 8)) is.group
-        is.slots ∙ reg_made (row_chosen choice).group _
+    reg_is = has.reg ∙ reg_made (chosen choice).group _
 
-    place_is : place.bytes.items ≡ place_bytes 0 (candidate (row_chosen choice) m).place
+    place_is : place.bytes.items ≡ place_bytes 0 (candidate (chosen choice) m).place
     unfolding candidate
-    place_is = bytes ∙ ap (place_bytes 0) (has.e.place ∙ ap shortest asked)
+    place_is = bytes ∙ ap (place_bytes 0) has.e.place
 
-    imm_is : numbers.imm ≡ (candidate (row_chosen choice) m).imm
+    imm_is : numbers.imm ≡ (candidate (chosen choice) m).imm
     unfolding candidate
-    imm_is = has.imm ∙ ap (λ s. imm_of (operand_of_kind names_imm s m.operands)) is.slots
+    imm_is = has.imm
 
-    form_is : (candidate (row_chosen choice) m).form ≡ shortest_form (candidate (row_chosen choice) m).fields
+    form_is : (candidate (chosen choice) m).form ≡ shortest_form (candidate (chosen choice) m).fields
     unfolding candidate
     form_is = refl
 
-    pub written : prefix_bytes (shortest_form (fields_of prefix)) (fields_of prefix) ++ choice.entry.byte
-        ∷ (with_reg numbers.reg place.bytes.items ++ imm_bytes layout.has_imm numbers.imm)
-        ≡ bytes_of (row_chosen choice) (candidate (row_chosen choice) m)
-    written =
+    pub written : (imm : Bool) → imm ≡ has_imm (chosen choice)
+        → prefix_bytes (shortest_form (fields_of prefix)) (fields_of prefix) ++ choice.entry.byte
+        ∷ (with_reg numbers.reg place.bytes.items ++ imm_bytes imm numbers.imm)
+        ≡ bytes_of (chosen choice) (candidate (chosen choice) m)
+    written imm has_it =
         let front : prefix_bytes (shortest_form (fields_of prefix)) (fields_of prefix)
-        ≡ prefix_bytes (candidate (row_chosen choice) m).form (candidate (row_chosen choice) m).fields =
+        ≡ prefix_bytes (candidate (chosen choice) m).form (candidate (chosen choice) m).fields =
         ap (λ f. prefix_bytes (shortest_form f) f) fields_made
-        ∙ ap (λ form. prefix_bytes form (candidate (row_chosen choice) m).fields) (sym form_is) in
+        ∙ ap (λ form. prefix_bytes form (candidate (chosen choice) m).fields) (sym form_is) in
         let place_and_reg : with_reg numbers.reg place.bytes.items
-        ≡ place_bytes (candidate (row_chosen choice) m).reg (candidate (row_chosen choice) m).place =
-        ap₂ with_reg reg_is place_is ∙ reg_added _ (candidate (row_chosen choice) m).place in
-        λ i. front i ++ choice.entry.byte ∷ (place_and_reg i ++ imm_bytes (is.has_imm i) (imm_is i))
+        ≡ place_bytes (candidate (chosen choice) m).reg (candidate (chosen choice) m).place =
+        ap₂ with_reg reg_is place_is ∙ reg_added _ (candidate (chosen choice) m).place in
+        λ i. front i ++ choice.entry.byte ∷ (place_and_reg i ++ imm_bytes (has_it i) (imm_is i))

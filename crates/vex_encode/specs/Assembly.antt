@@ -2,8 +2,9 @@
 use Rattle.std.specs.Prelude.{◌≡◌, ℕ, ◌+◌, ◌*◌, ◌/◌, ◌%◌, ◌<◌, ◌==◌, Bool, true, false, List, [], ◌∷◌, unwrap_or}
 use Rattle.std.specs.Prelude.{if◌then◌else◌}
 use Rattle.x86_operand.specs.declared.register.RegisterBank.{RegisterBank}
-use Rattle.x86_operand.specs.Kind.{Kind, WithoutModRM, InRegister, InMemory, VectorIndexed, memory_kind}
-use Rattle.x86_operand.specs.Meaning.{OperandMeaning, register, memory, Meaning, operand_meaning}
+use Rattle.x86_operand.specs.Kind.{Kind, WithoutModRM, InRegister, InMemory, VectorIndexed}
+use Rattle.x86_operand.specs.Instruction.{operand_at}
+use Rattle.x86_operand.specs.Meaning.{OperandMeaning, register, memory, Meaning}
 use Rattle.x86_address.specs.Place.{Target}
 use Rattle.x86_operand.specs.declared.register.RegisterBank.TheVariants.{Q}
 use Rattle.x86_operand.specs.declared.address.Address.{Address}
@@ -13,51 +14,36 @@ use Rattle.vex_rows.specs.Row.{Row}
 use Rattle.vex_forms.specs.declared.operand_e.OperandE.{OperandE}
 use Rattle.vex_forms.specs.declared.operand_e.OperandE.TheVariants.{Memory}
 use Rattle.vex_forms.specs.declared.operand_fields.OperandFields.{OperandFields}
-use Rattle.vex_forms.specs.declared.row_layout.RowLayout.{RowLayout}
 use Rattle.vex_forms.specs.declared.slot.Slot.{Slot}
-use Rattle.vex_forms.specs.Layout.{row_for}
 use Rattle.vex_forms.specs.Operands.{target_seen}
-use Rattle.vex_forms.specs.Slots.{names_g, names_v, names_e, names_imm}
-use Rattle.vex_encode.specs.declared.row_choice.RowChoice.{RowChoice}
+use Rattle.vex_forms.specs.Slots.{slots, names_g, names_v, names_e, names_imm}
 use Rattle.vex_encode.specs.declared.operand_walk.Asked.{Asked}
 use Rattle.vex_encode.specs.Standard.{operand_of_kind, number_of, imm_of, target_of}
 use Rattle.vex_encode.specs.Conditions.{RegisterFits, AddressFits}
 
--- the row that is chosen
-abbrev pub row_chosen : RowChoice → Row
-row_chosen choice = row_for choice.entry choice.w choice.l choice.memory choice.group
-
--- the kind of a row's operand E, by whether the index of its address is a vector register, whether it has a ModRM byte
--- and whether that operand is in memory
-abbrev pub kind_by : Bool → Bool → Bool → Kind
-kind_by vector modrm in_memory = if modrm then (if in_memory then memory_kind vector else InRegister) else WithoutModRM
-
--- what operands ask for, each by the first slot of its kind
-pub record IsAsked (slots : List Slot) (operands : List OperandMeaning) (asked : Asked) : Type 0 where
+-- what operands ask for, each by the first slot of its kind; the one at the slot of E is named by its place among all
+pub record IsAsked (all : List OperandMeaning) (slots : List Slot) (operands : List OperandMeaning) (asked : Asked)
+    : Type 0 where
   pub g : asked.g ≡ number_of (operand_of_kind names_g slots operands)
   pub v : asked.v ≡ number_of (operand_of_kind names_v slots operands)
-  pub e : operand_meaning asked.e ≡ operand_of_kind names_e slots operands
+  pub e : operand_at all asked.e ≡ operand_of_kind names_e slots operands
   pub imm : asked.imm ≡ imm_of (operand_of_kind names_imm slots operands)
 
 -- the number that the operand at the slot of the field reg has
-abbrev pub g_of : RowLayout → Meaning → ℕ
-g_of layout m = number_of (operand_of_kind names_g layout.slots.items m.operands)
+abbrev pub g_of : Row → Meaning → ℕ
+g_of row m = number_of (operand_of_kind names_g (slots row) m.operands)
 
 -- that of the slot of vvvv
-abbrev pub v_of : RowLayout → Meaning → ℕ
-v_of layout m = number_of (operand_of_kind names_v layout.slots.items m.operands)
+abbrev pub v_of : Row → Meaning → ℕ
+v_of row m = number_of (operand_of_kind names_v (slots row) m.operands)
 
 -- that of the slot that reads the immediate byte
-abbrev pub immediate_of : RowLayout → Meaning → ℕ
-immediate_of layout m = imm_of (operand_of_kind names_imm layout.slots.items m.operands)
+abbrev pub immediate_of : Row → Meaning → ℕ
+immediate_of row m = imm_of (operand_of_kind names_imm (slots row) m.operands)
 
 -- the operand at the slot of E
-abbrev pub operand_at_e : RowLayout → Meaning → OperandMeaning
-operand_at_e layout m = operand_of_kind names_e layout.slots.items m.operands
-
--- what it asks for, in a row of this kind
-abbrev pub asked_of : Kind → RowLayout → Meaning → Target
-asked_of kind layout m = target_of kind (operand_at_e layout m)
+abbrev pub operand_at_e : Row → Meaning → OperandMeaning
+operand_at_e row m = operand_of_kind names_e (slots row) m.operands
 
 -- an operand is a register that fits a slot of this bank
 abbrev pub IsRegisterOf : RegisterBank → OperandMeaning → Type 0
@@ -107,10 +93,10 @@ abbrev pub with_reg : ℕ → List ℕ → List ℕ
 with_reg reg [] = []
 with_reg reg (modrm ∷ rest) = (modrm + 8 * reg) ∷ rest
 
--- the numbers that a meaning's operands ask for, by the layout of a row
-pub record HasNumbers (kind : Kind) (layout : RowLayout) (m : Meaning) (numbers : OperandFields) : Type 0 where
-  pub r : numbers.r ≡ ((g_of layout m / 8) % 2 == 1)
-  pub vvvv : numbers.vvvv ≡ v_of layout m % 16
-  pub reg : numbers.reg ≡ unwrap_or layout.group (g_of layout m % 8)
-  pub e : AsksFor numbers.e (asked_of kind layout m)
-  pub imm : numbers.imm ≡ immediate_of layout m
+-- the numbers that a meaning's operands ask for in a row
+pub record HasNumbers (row : Row) (m : Meaning) (numbers : OperandFields) : Type 0 where
+  pub r : numbers.r ≡ ((g_of row m / 8) % 2 == 1)
+  pub vvvv : numbers.vvvv ≡ v_of row m % 16
+  pub reg : numbers.reg ≡ unwrap_or row.group (g_of row m % 8)
+  pub e : AsksFor numbers.e (target_of row.kind (operand_at_e row m))
+  pub imm : numbers.imm ≡ immediate_of row m

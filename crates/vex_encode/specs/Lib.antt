@@ -3,7 +3,6 @@ pub mod Canon
 pub mod Kind
 pub mod Assembly
 pub mod Encode
-pub mod Excluded
 pub mod Recode
 pub mod Conditions
 pub mod Laws

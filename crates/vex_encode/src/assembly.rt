@@ -2,13 +2,16 @@
 
 ghost use Rattle.std.specs.Prelude.{◌≡◌, ◌≤◌, ◌<◌, Bool, length};
 ghost use Rattle.std.specs.Option.{ForSome};
+ghost use Rattle.x86_operand.specs.Instruction.{operand_at};
 ghost use Rattle.x86_operand.specs.Kind.{is_vector};
 ghost use Rattle.x86_operand.specs.Meaning.{Meaning, memory, operand_meaning};
 ghost use Rattle.x86_operand.specs.declared.register.RegisterBank.{RegisterBank};
 ghost use Rattle.x86_operand.specs.declared.register.RegisterBank.TheVariants.{Q};
 ghost use Rattle.x86_address.specs.Shortest.{in_banks, index_register, plain, plain_index};
 ghost use Rattle.x86_address.specs.Spells.{BaseFits, IndexFits};
+ghost use Rattle.vex_rows.specs.Row.{Row};
 ghost use Rattle.vex_forms.specs.Operands.{BanksFit, NumberFits};
+ghost use Rattle.vex_forms.specs.Slots.{slots};
 ghost use Rattle.vex_encode.specs.Assembly.{AsksFor, CanBePlaced, HasNumbers, GeneralAddress, IsAddress, IsAddressOf};
 ghost use Rattle.vex_encode.specs.Assembly.{IsAsked, IsPlaced};
 ghost use Rattle.vex_encode.specs.Kind.{kind_seen};
@@ -17,7 +20,7 @@ ghost use Rattle.vex_encode.specs.Conditions.{AddressFits, SlotIndexFits};
 
 use crate::kind::Kind;
 use crate::operand_walk::{Asked, number_of};
-use vex_forms::{OperandE, OperandFields, RowLayout};
+use vex_forms::{OperandE, OperandFields};
 use x86_operand::{Address, Index, Operand, RegSpec, RegisterBank};
 
 /// The address of an operand in memory.
@@ -87,19 +90,22 @@ fn operand_e(kind: Kind, operand: Operand) -> OperandE
     }
 }
 
-/// The numbers that operands ask for in a row with this kind of operand E, where they ask for this slot by slot.
-pub fn operand_fields(kind: Kind, layout: &RowLayout, asked: &Asked) -> OperandFields
-    requires group { ForSome layout.now.group (λ group. group < 8) }
-    requires e { IsPlaced (kind_seen kind) layout.now.index_bank (operand_meaning asked.now.e) }
-    ensures numbers { (m : Meaning) → IsAsked layout.now.slots.items m.operands asked.now
-        → HasNumbers (kind_seen kind) layout.now m result }
+/// The numbers that operands ask for in a row with this kind of operand E and this reg field of a group, where they ask
+/// for this slot by slot, and `e` is the operand at the slot of E.
+#[inline(always)]
+pub fn operand_fields(kind: Kind, group: Option<u8>, asked: Asked, e: Operand) -> OperandFields
+    requires group { ForSome group (λ group. group < 8) }
+    requires e { (bank : RegisterBank) × IsPlaced (kind_seen kind) bank (operand_meaning e) }
+    ensures numbers { (row : Row) (m : Meaning) → row.kind ≡ kind_seen kind → row.group ≡ group
+        → operand_meaning e ≡ operand_at m.operands asked.e → IsAsked m.operands (slots row) m.operands asked
+        → HasNumbers row m result }
     ensures placed { CanBePlaced (is_vector (kind_seen kind)) result.e }
 {
     OperandFields {
         r: asked.g / 8 % 2 == 1,
         vvvv: asked.v % 16,
-        reg: layout.group.unwrap_or(asked.g % 8),
-        e: operand_e(kind, asked.e),
+        reg: group.unwrap_or(asked.g % 8),
+        e: operand_e(kind, e),
         imm: asked.imm,
     }
 }

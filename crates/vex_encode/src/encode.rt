@@ -1,34 +1,36 @@
 //! The shortest spelling of an instruction.
 
-ghost use Rattle.std.specs.Prelude.{ℕ, ◌≡◌, ◌+◌, ◌<◌, ◌≤◌, ◌==◌, false, length, flat_map, if◌then◌else◌};
+ghost use Rattle.std.specs.Prelude.{ℕ, ◌≡◌, ◌+◌, ◌<◌, ◌≤◌, ◌==◌, false, true, length, flat_map, if◌then◌else◌};
 ghost use Rattle.std.specs.List.{list_any};
-ghost use Rattle.x86_operand.specs.Meaning.{Meaning, operand_meaning};
+ghost use Rattle.std.specs.Option.{ForSome};
+ghost use Rattle.x86_operand.specs.Instruction.{operand_at};
+ghost use Rattle.x86_operand.specs.Meaning.{operand_meaning};
+ghost use Rattle.x86_operand.specs.declared.register.RegisterBank.{RegisterBank};
 ghost use Rattle.vex_rows.specs.declared.entry.Entry.{Entry};
 ghost use Rattle.vex_rows.specs.Row.{Among, choices, choices_of_l, choices_of_w};
 ghost use Rattle.vex_rows.specs.Groups.{groups};
 ghost use Rattle.vex_rows.specs.Table.{table};
-ghost use Rattle.vex_forms.specs.Layout.{IsLayout, row_for};
+ghost use Rattle.vex_forms.specs.Layout.{chosen, row_for, rules_allow};
+ghost use Rattle.vex_forms.specs.Slots.{slots};
 ghost use Rattle.vex_decode.specs.Spelling.{bytes_of};
-ghost use Rattle.vex_encode.specs.Assembly.{IsAsked, IsPlaced, row_chosen};
+ghost use Rattle.vex_encode.specs.Assembly.{IsAsked, IsPlaced};
 ghost use Rattle.vex_encode.specs.Canon.{canon};
 ghost use Rattle.vex_encode.specs.Encode.{best, first, is_address, shorter_of, standard_of};
 ghost use Rattle.vex_encode.specs.Kind.{kind_seen};
 ghost use Rattle.vex_encode.specs.Standard.{candidate};
 
 use crate::assembly::operand_fields;
-use crate::excluded::is_excluded;
 use crate::fits::given;
 use crate::kind::Kind;
 use crate::operand_walk::Asked;
 use crate::place::place_of;
-use crate::row_choice::RowChoice;
 use crate::spell::spell;
 use crate::spelling::Spelling;
 use arrayvec::ArrayVec;
 use std::sync::ledger::Ledger;
 use step_counter::Steps;
 use vex_forms::laws::rows_are_choices;
-use vex_forms::{RowLayout, layout};
+use vex_forms::{Choice, is_row, rules_allow};
 use vex_rows::{Entry, Few, Form, Prefix, entries_of, row_of_form};
 use x86_operand::{Instruction, Opcode, Operand};
 
@@ -52,15 +54,17 @@ fn has_address(instruction: &Instruction) -> bool
 }
 
 /// The spelling of an instruction by a row that can give it, where its operands ask for this.
-#[inline(always)]
-fn spelling_by(choice: &RowChoice, kind: Kind, layout: &RowLayout, asked: &Asked) -> Spelling
-    requires kind { (row_chosen choice.now).kind ≡ kind_seen kind }
-    requires layout { IsLayout (row_chosen choice.now) layout.now }
-    requires e { IsPlaced (kind_seen kind) layout.now.index_bank (operand_meaning asked.now.e) }
-    ensures { (m : Meaning) → IsAsked layout.now.slots.items m.operands asked.now
-        → result ≡ bytes_of (row_chosen choice.now) (candidate (row_chosen choice.now) m) }
+#[inline(never)]
+fn spelling_by(choice: &Choice, kind: Kind, asked: Asked, instruction: &Instruction) -> Spelling
+    requires kind { (chosen choice.now).kind ≡ kind_seen kind }
+    requires group { ForSome choice.now.group (λ group. group < 8) }
+    requires e { (bank : RegisterBank)
+        × IsPlaced (kind_seen kind) bank (operand_at instruction.now.meaning.operands asked.e) }
+    ensures { IsAsked instruction.now.meaning.operands (slots (chosen choice.now)) instruction.now.meaning.operands
+        asked → result ≡ bytes_of (chosen choice.now) (candidate (chosen choice.now) instruction.now.meaning) }
 {
-    let numbers = operand_fields(kind, layout, asked);
+    let e = instruction.operand(asked.e);
+    let numbers = operand_fields(kind, choice.group, asked, e);
     let place = place_of(kind.is_vector(), numbers.e);
     let prefix = Prefix {
         map: choice.entry.map,
@@ -72,29 +76,41 @@ fn spelling_by(choice: &RowChoice, kind: Kind, layout: &RowLayout, asked: &Asked
         b: place.b,
         vvvv: numbers.vvvv,
     };
-    spell(&prefix, choice.entry.byte, &numbers, &place, layout.has_imm)
+    spell(
+        &prefix,
+        choice.entry.byte,
+        &numbers,
+        &place,
+        choice.has_imm(),
+    )
 }
 
-/// The standard spelling of an instruction by a row of its kind, where the row exists and can give it. It is a call of
-/// its own, so that choices which an instruction excludes cost little.
+/// The standard spelling of an instruction by the row of an entry at that W, L, kind of the operand E and reg field,
+/// where the row exists and can give it. It is a call of its own, so that rows which don't exist cost little.
 #[inline(never)]
-fn standard(choice: &RowChoice, instruction: &Instruction) -> Option<Spelling>
-    requires listed { Among choice.now.entry table }
-    requires memory { choice.now.memory ≡ list_any is_address instruction.now.meaning.operands }
-    ensures { result ≡ standard_of (row_chosen choice.now) instruction.now.meaning }
+fn standard(
+    entry: &Entry,
+    w: bool,
+    l: bool,
+    memory: bool,
+    group: u8,
+    instruction: &Instruction,
+) -> Option<Spelling>
+    requires listed { Among entry.now table }
+    requires rules { rules_allow entry.now w l ≡ true }
+    requires group { group < 8 }
+    requires memory { memory ≡ list_any is_address instruction.now.meaning.operands }
+    ensures { result ≡ standard_of (row_for entry.now w l memory group) instruction.now.meaning }
 {
     // A law: what an entry has here is a row where it can be and exists.
     rows_are_choices();
-    let layout = layout(
-        &choice.entry,
-        choice.w,
-        choice.l,
-        choice.memory,
-        choice.group,
-    )?;
-    let kind = Kind::of(&layout, choice.memory);
-    match given(kind, &layout, instruction) {
-        Some(asked) => Some(spelling_by(choice, kind, &layout, &asked)),
+    if !is_row(entry, w, l, memory, group) {
+        return None;
+    }
+    let choice = Choice::of(entry, w, l, memory, group);
+    let kind = Kind::of(&choice);
+    match given(kind, &choice, instruction) {
+        Some(asked) => Some(spelling_by(&choice, kind, asked, instruction)),
         None => None,
     }
 }
@@ -127,6 +143,7 @@ fn standard_of_group(
     instruction: &Instruction,
 ) -> Option<Spelling>
     requires listed { Among entry.now table }
+    requires rules { rules_allow entry.now w l ≡ true }
     requires group { Among group (groups entry.now.form (if l then 1 else 0)) }
     requires memory { memory ≡ list_any is_address instruction.now.meaning.operands }
     ensures { result ≡ standard_of (row_for entry.now w l memory group.0) instruction.now.meaning }
@@ -134,14 +151,7 @@ fn standard_of_group(
     if !instruction.opcode().is(group.1) {
         return None;
     }
-    let choice = RowChoice {
-        entry: *entry,
-        w,
-        l,
-        memory,
-        group: group.0,
-    };
-    standard(&choice, instruction)
+    standard(entry, w, l, memory, group.0, instruction)
 }
 
 /// The standard spelling by the first row of an entry with groups, at that W and L, that can give an instruction.
@@ -154,6 +164,7 @@ fn standard_by_group(
     instruction: &Instruction,
 ) -> Option<Spelling>
     requires listed { Among entry.now table }
+    requires rules { rules_allow entry.now w l ≡ true }
     requires grouped { (l : ℕ) → (length (groups entry.now.form l) == 0) ≡ false }
     requires memory { memory ≡ list_any is_address instruction.now.meaning.operands }
     ensures { result ≡ first instruction.now.meaning (choices_of_l entry.now w (if l then 1 else 0)) }
@@ -181,20 +192,13 @@ fn standard_at(
     requires memory { memory ≡ list_any is_address instruction.now.meaning.operands }
     ensures { result ≡ first instruction.now.meaning (choices_of_l entry.now w (if l then 1 else 0)) }
 {
-    if is_excluded(entry, w, l, memory, instruction) {
+    if !rules_allow(entry, w, l) {
         return None;
     }
     if !is_alone(entry.form) {
         return standard_by_group(entry, w, l, memory, instruction);
     }
-    let choice = RowChoice {
-        entry: *entry,
-        w,
-        l,
-        memory,
-        group: 0,
-    };
-    standard(&choice, instruction)
+    standard(entry, w, l, memory, 0, instruction)
 }
 
 /// The standard spelling by the first row of an entry at that W that can give an instruction.
@@ -231,20 +235,14 @@ fn standard_by_entry(entry: &Entry, memory: bool, instruction: &Instruction) -> 
     standard_by_l(entry, true, memory, instruction)
 }
 
-/// The shorter of two spellings that may be missing, the first where both are equally long.
-fn shorter(first: Option<Spelling>, second: Option<Spelling>) -> Option<Spelling>
-    ensures { result ≡ shorter_of first second }
+/// Whether a spelling is there, and another isn't or is longer.
+fn is_shorter(spelling: &Option<Spelling>, other: &Option<Spelling>) -> bool
+    ensures { (if result then spelling.now else other.now) ≡ shorter_of other.now spelling.now }
 {
-    match (first, second) {
-        (None, second) => second,
-        (first, None) => first,
-        (Some(first), Some(second)) => {
-            if first.as_slice().len() <= second.as_slice().len() {
-                Some(first)
-            } else {
-                Some(second)
-            }
-        }
+    match (spelling, other) {
+        (None, _) => false,
+        (Some(_), None) => true,
+        (Some(spelling), Some(other)) => spelling.as_slice().len() < other.as_slice().len(),
     }
 }
 
@@ -258,7 +256,9 @@ fn standard_by_entries(entries: &[Entry], instruction: &Instruction) -> Option<S
     let mut shortest = None;
     for entry in entries {
         let found = standard_by_entry(entry, memory, instruction);
-        shortest = shorter(shortest, found);
+        if is_shorter(&found, &shortest) {
+            shortest = found;
+        }
     }
     shortest
 }

@@ -2,16 +2,16 @@
 
 ghost use Rattle.std.specs.Prelude.{◌≡◌, ◌↔◌, ◌≤◌, IsSome, IfSome, IsTrue};
 ghost use Rattle.x86_operand.specs.Meaning.{operand_meaning};
-ghost use Rattle.vex_rows.specs.Row.{Row};
-ghost use Rattle.vex_forms.specs.Layout.{IsLayout};
+ghost use Rattle.vex_forms.specs.Layout.{chosen};
+ghost use Rattle.vex_forms.specs.Slots.{slots};
 ghost use Rattle.vex_encode.specs.Assembly.{IsAddressOf, IsAsked, IsRegisterOf};
 ghost use Rattle.vex_encode.specs.Kind.{kind_seen};
-ghost use Rattle.vex_encode.specs.Conditions.{AddressFits, CanGive, PlacedFits, RegisterFits, SlotBaseFits};
-ghost use Rattle.vex_encode.specs.Conditions.{SlotIndexFits};
+ghost use Rattle.vex_encode.specs.Conditions.{AddressFits, CanGive, OperandsFit, PlacedFits, RegisterFits};
+ghost use Rattle.vex_encode.specs.Conditions.{SlotBaseFits, SlotIndexFits};
 
 use crate::kind::Kind;
 use crate::operand_walk::{Asked, operands_asked};
-use vex_forms::RowLayout;
+use vex_forms::{Choice, Slot};
 use x86_operand::{Address, Index, Instruction, Operand, RegSpec, RegisterBank};
 
 /// Whether a register is one of the sixteen of a bank that a prefix can name.
@@ -95,24 +95,45 @@ pub fn placed_fits(
     }
 }
 
-/// What the operands of an instruction ask for, where the row of a layout, with this kind of operand E, can give it.
+/// Whether the first operand can stand at the first slot, as far as is seen at once. It tells most rows of an entry
+/// apart, by their L.
+#[tactic(auto, using(crate::proofs::Fitting::first_register, crate::proofs::Fitting::first_e))]
+#[inline(always)]
+fn first_may_fit(kind: Kind, slots: &[Slot], instruction: &Instruction) -> bool
+    ensures { (bank : RegisterBank)
+        → OperandsFit (kind_seen kind) bank slots.now instruction.now.meaning.operands → IsTrue result }
+{
+    match slots {
+        [Slot::G(bank), ..] => is_register_of(*bank, instruction.operand(0)),
+        [Slot::E(bank), ..] if kind == Kind::Register => is_register_of(
+            *bank,
+            instruction.operand(0),
+        ),
+        _ => true,
+    }
+}
+
+/// What the operands of an instruction ask for, where the row that is chosen, with this kind of operand E, can give it.
+/// The opcode comes last: it is the row's but where that goes by a group or the kind.
 #[tactic(auto, unfolding(vex_rows::specs::Row::mark_of))]
 #[inline(always)]
-pub fn given(kind: Kind, layout: &RowLayout, instruction: &Instruction) -> Option<Asked>
-    ensures gives { (row : Row) → IsLayout row layout.now → row.kind ≡ kind_seen kind
-        → (IsSome result ↔ CanGive row instruction.now.meaning) }
-    ensures asked { IfSome result (IsAsked layout.now.slots.items instruction.now.meaning.operands) }
+pub fn given(kind: Kind, choice: &Choice, instruction: &Instruction) -> Option<Asked>
+    requires { (chosen choice.now).kind ≡ kind_seen kind }
+    ensures gives { IsSome result ↔ CanGive (chosen choice.now) instruction.now.meaning }
+    ensures asked { IfSome result (IsAsked instruction.now.meaning.operands (slots (chosen choice.now))
+        instruction.now.meaning.operands) }
 {
-    if instruction.is_evex()
-        || !instruction.opcode().is(layout.opcode)
-        || instruction.mem_size() != layout.mem_size
-    {
+    let slots = choice.slots();
+    if !first_may_fit(kind, slots.as_slice(), instruction) {
         return None;
     }
-    operands_asked(
-        kind,
-        layout.index_bank,
-        layout.slots.as_slice(),
-        instruction,
-    )
+    if instruction.is_evex() || instruction.mem_size() != choice.memory_size() {
+        return None;
+    }
+    let asked = operands_asked(kind, choice.index_bank(), slots.as_slice(), instruction)?;
+    if instruction.opcode().is(choice.opcode()) {
+        Some(asked)
+    } else {
+        None
+    }
 }

@@ -2,10 +2,10 @@
 
 ghost use Rattle.std.specs.Prelude.{◌≡◌};
 ghost use Rattle.x86_operand.specs.Kind.{is_vector};
-ghost use Rattle.vex_encode.specs.Assembly.{kind_by};
+ghost use Rattle.vex_forms.specs.Layout.{chosen};
 ghost use Rattle.vex_encode.specs.Kind.{kind_seen};
 
-use vex_forms::RowLayout;
+use vex_forms::Choice;
 
 /// What a row has in the place of the operand E.
 #[derive(Clone, Copy, PartialEq, Eq, Debug)]
@@ -21,15 +21,17 @@ pub enum Kind {
 }
 
 impl Kind {
-    /// The kind of a row, by its layout and whether its operand E is in memory.
-    pub fn of(layout: &RowLayout, memory: bool) -> Kind
-        ensures { kind_seen result ≡ kind_by layout.now.vector layout.now.has_modrm memory }
+    /// The kind of the row that is chosen.
+    #[inline(always)]
+    pub fn of(choice: &Choice) -> Kind
+        ensures { (chosen choice.now).kind ≡ kind_seen result }
     {
-        if !layout.has_modrm {
+        let form = choice.form_row();
+        if !form.modrm {
             Kind::WithoutModRM
-        } else if !memory {
+        } else if !choice.memory {
             Kind::Register
-        } else if layout.vector {
+        } else if form.gathers {
             Kind::Vector
         } else {
             Kind::Memory

@@ -19,14 +19,12 @@ mod assembly;
 mod encode;
 #[cfg(test)]
 mod example;
-mod excluded;
 mod fits;
 mod kind;
 pub mod laws;
 mod operand_walk;
 mod place;
 mod recoder;
-mod row_choice;
 mod shortest;
 mod spell;
 mod spelling;

@@ -1,6 +1,6 @@
 //! What the operands of an instruction ask for, slot by slot.
 
-ghost use Rattle.std.specs.Prelude.{◌≡◌, ◌↔◌, ◌≤◌, IsSome, IfSome, IsTrue, List, [], ◌∷◌, true};
+ghost use Rattle.std.specs.Prelude.{◌≡◌, ◌↔◌, ◌≤◌, IsSome, IfSome, IsTrue, List, [], ◌∷◌, length, true};
 ghost use Rattle.x86_operand.specs.Instruction.{operand_at};
 ghost use Rattle.x86_operand.specs.Kind.{Kind as KindSeen};
 ghost use Rattle.x86_operand.specs.Meaning.{OperandMeaning, operand_meaning};
@@ -72,6 +72,9 @@ fn imm_at(slot: Slot, operand: Operand) -> Option<u8>
     }
 }
 
+/// The place of an operand that an instruction doesn't have, since it has at most four.
+const NO_PLACE: u8 = 4;
+
 /// What operands ask for, each by the first slot of its kind.
 #[derive(Clone, Copy, Debug)]
 pub struct Asked {
@@ -79,8 +82,8 @@ pub struct Asked {
     pub g: u8,
     /// The number of the register at the slot of vvvv, 0 where there is none.
     pub v: u8,
-    /// The operand at the slot of E, `Nothing` where there is none.
-    pub e: Operand,
+    /// The place of the operand at the slot of E, 4 where there is none.
+    pub e: u8,
     /// The immediate byte, 0 where there is none.
     pub imm: u8,
 }
@@ -88,18 +91,19 @@ pub struct Asked {
 impl Asked {
     /// What no operands ask for.
     fn nothing() -> Asked
-        ensures { IsAsked [] [] result }
+        ensures { (all : List OperandMeaning) → length all ≤ 4 → IsAsked all [] [] result }
     {
         Asked {
             g: 0,
             v: 0,
-            e: Operand::Nothing,
+            e: NO_PLACE,
             imm: 0,
         }
     }
 
     /// Adds what the operand at a place asks for, which stands with its slot before the others. Answers whether it can
     /// stand there.
+    #[inline(always)]
     fn put_before(
         &mut self,
         kind: Kind,
@@ -111,8 +115,9 @@ impl Asked {
         ensures fits { IsTrue result
             ↔ OperandFits (kind_seen kind) index_bank slot (operand_at instruction.now.meaning.operands i) }
         ensures asked { (slots : List Slot) (operands : List OperandMeaning) → IsTrue result
-            → IsAsked slots operands self.old
-            → IsAsked (slot ∷ slots) (operand_at instruction.now.meaning.operands i ∷ operands) self.new }
+            → IsAsked instruction.now.meaning.operands slots operands self.old
+            → IsAsked instruction.now.meaning.operands (slot ∷ slots)
+            (operand_at instruction.now.meaning.operands i ∷ operands) self.new }
     {
         match slot {
             Slot::G(bank) => match number_at(bank, instruction.operand(i)) {
@@ -127,7 +132,7 @@ impl Asked {
                 if !placed_fits(kind, index_bank, bank, instruction.operand(i)) {
                     return false;
                 }
-                self.e = instruction.operand(i);
+                self.e = i;
             }
             Slot::U8 | Slot::I8 | Slot::R4(_) => match imm_at(slot, instruction.operand(i)) {
                 Some(imm) => self.imm = imm,
@@ -139,6 +144,7 @@ impl Asked {
 }
 
 /// What the operands of an instruction ask for, where there are as many as slots, and each can stand at its slot.
+#[inline(always)]
 pub fn operands_asked(
     kind: Kind,
     index_bank: RegisterBank,
@@ -146,7 +152,7 @@ pub fn operands_asked(
     instruction: &Instruction,
 ) -> Option<Asked>
     ensures fit { IsSome result ↔ OperandsFit (kind_seen kind) index_bank slots.now instruction.now.meaning.operands }
-    ensures asked { IfSome result (IsAsked slots.now instruction.now.meaning.operands) }
+    ensures asked { IfSome result (IsAsked instruction.now.meaning.operands slots.now instruction.now.meaning.operands) }
 {
     if usize::from(instruction.operand_count()) != slots.len() {
         return None;

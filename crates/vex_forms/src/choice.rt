@@ -127,7 +127,7 @@ impl Choice {
 
     /// What the row is by its form, W, L and the place of the operand E.
     #[inline(always)]
-    pub fn shape(&self) -> &'static RowShape
+    pub(crate) fn shape(&self) -> &'static RowShape
         ensures is { result.now ≡ shape_of self.now.entry.form self.now.w self.now.l self.now.memory }
         ensures slots { slots_in result.now (chosen self.now).l self.now.entry.opcode ≡ slots (chosen self.now) }
         ensures vvvv { result.now.vvvv ≡ v_rule (chosen self.now) }

@@ -44,6 +44,7 @@ mod sizes;
 mod slot;
 mod slots;
 
+pub use choice::{Choice, is_row, rules_allow};
 pub use instruction::instruction_of;
 pub use kind::Kind;
 pub use operand_e::OperandE;

@@ -1,10 +1,13 @@
 -- The one row of an entry without groups.
 use Rattle.std.proofs.Common.{sym, ◌∙◌, if◌then◌else◌}
 use Rattle.vex_encode.proofs.Entries.{first_alone}
+use Rattle.vex_encode.proofs.PassedOver.{none_by_rules}
 use Rattle.vex_encode.proofs.encode.standard_at.Goals as goal
 
-pub returns-then-is_excluded : goal.returns-then-is_excluded
-returns-then-is_excluded c = sym (c.is_excluded.ensures c.if-is_excluded.true)
+pub returns-then-not-rules_allow : goal.returns-then-not-rules_allow
+returns-then-not-rules_allow c =
+    sym (none_by_rules c.args.entry.now c.args.w c.args.l c.args.instruction.now.meaning
+    (sym c.rules_allow.ensures ∙ c.if-not-rules_allow.true))
 
 pub returns : goal.returns
 returns c =

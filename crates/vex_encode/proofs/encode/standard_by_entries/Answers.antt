@@ -1,9 +1,10 @@
 -- One more entry, and all of them.
-use Rattle.std.proofs.Common.{arith, ap, ap₂, sym, ◌∙◌, flat_map, take}
+use Rattle.std.proofs.Common.{arith, ap, ap₂, sym, ◌∙◌, flat_map, take, if◌then◌else◌}
 use Rattle.std.proofs.Math.Seq.{take-length}
 use Rattle.vex_rows.specs.Row.{choices}
 use Rattle.vex_encode.specs.Encode.{shorter_of, best}
 use Rattle.vex_encode.proofs.Search.{among_at, best_more}
+use Rattle.vex_encode.proofs.encode.standard_by_entries.Goals.{then-is_shorter, else-is_shorter}
 use Rattle.vex_encode.proofs.encode.standard_by_entries.Goals as goal
 
 pub standard_by_entry-found-requires-clause-listed : goal.standard_by_entry-found-requires-clause-listed
@@ -12,7 +13,14 @@ standard_by_entry-found-requires-clause-listed c =
 
 pub loop-entry-preserved : goal.loop-entry-preserved
 loop-entry-preserved c =
-    c.shorter-shortest.ensures
+    elim c.if-is_shorter.branch [
+      | then-is_shorter w ↦ w.shortest-is
+          ∙ ap (λ b. if b then c.standard_by_entry-found.result else c.loop-entry.shortest) (sym w.if-is_shorter.true)
+          ∙ c.is_shorter.ensures
+      | else-is_shorter w ↦ w.shortest-is
+          ∙ ap (λ b. if b then c.standard_by_entry-found.result else c.loop-entry.shortest) (sym w.if-is_shorter.false)
+          ∙ c.is_shorter.ensures
+    ]
     ∙ ap₂ shorter_of c.loop-entry.invariant c.standard_by_entry-found.ensures
     ∙ sym (best_more c.args.instruction.now.meaning c.args.entries.now c.loop-entry.entry-index _
     c.loop-entry-test.true)

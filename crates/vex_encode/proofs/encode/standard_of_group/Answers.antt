@@ -10,8 +10,6 @@ returns-then-not-is c =
     c.requires.group
     (λ same. let yes = c.is.ensures.1 (c.opcode.ensures ∙ same) in let no = c.if-not-is.true in cc)
 
-pub invariant_of-choice : goal.invariant_of-choice
-invariant_of-choice c = record {
-  group_fits =
-      small_group c.args.entry.now.form (if c.args.l then 1 else 0) c.args.group c.requires.group;
-}
+pub standard-requires-clause-group : goal.standard-requires-clause-group
+standard-requires-clause-group c =
+    small_group c.args.entry.now.form (if c.args.l then 1 else 0) c.args.group c.requires.group

@@ -9,7 +9,7 @@ abbrev pub invariant-loop-i : goal.invariant-loop-i
 invariant-loop-i l =
     (l.i ≤ length l.slots) × (length l.instruction.meaning.operands ≡ length l.slots)
     × OperandsFit (kind_seen l.kind) l.index_bank (drop l.i l.slots) (drop l.i l.instruction.meaning.operands)
-    × IsAsked (drop l.i l.slots) (drop l.i l.instruction.meaning.operands) l.asked
+    × IsAsked l.instruction.meaning.operands (drop l.i l.slots) (drop l.i l.instruction.meaning.operands) l.asked
 
 abbrev pub decreases-loop-i : goal.decreases-loop-i
 decreases-loop-i l = l.i
