@@ -10,7 +10,7 @@ use Rattle.std.proofs.Common.{arith, ap, sym, ◌∙◌, inl, inr, subst}
 use Rattle.x86_operand.specs.Meaning.{Meaning}
 use Rattle.vex_decode.specs.Spelling.{Spells}
 use Rattle.vex_list.specs.Order.{AtMost, Before, UpTo}
-use Rattle.vex_list.specs.Next.{Between, ByBit, Covers, Either}
+use Rattle.vex_list.specs.Next.{Between, Covers, Either}
 
 -- what isn't before a string isn't left behind by it
 lt_reverse : (o : Ordering) → is_lt (ordering_reverse o) ≡ is_gt o
@@ -109,15 +109,6 @@ module _ (m : Meaning) (previous : List ℕ) where
           before
     ];
   }
-
-  -- over the sets of both bits
-  pub cover_bits : (over : Bool → List ℕ → Type 0) (a b c : Option (List ℕ)) → Covers m previous (over false) a b
-      → Covers m previous (over true) b c → Covers m previous (ByBit over) a c
-  cover_bits over a b c p q = cover_fewer (Either (over false) (over true)) (ByBit over) a c (λ s t. by t.0 t.1)
-      (cover_either (over false) (over true) a b c p q) where
-        by : {s : List ℕ} (bit : Bool) → over bit s → Either (over false) (over true) s
-        by false t = inl t
-        by true t = inr t
 
   -- over no string
   pub cover_empty : (over : List ℕ → Type 0) (a : Option (List ℕ)) → ((b : List ℕ) → over b → ⊥)
