@@ -64,16 +64,6 @@ some_bytes (Some found) bytes there is = ap Some is
 
 -- ---- the nearest so far
 
--- it stays where the bytes aren't wanted
-pub cover_same : (m : Meaning) (previous : List ℕ) (bytes : List ℕ) (old : Option (List ℕ)) →
-    (Spells bytes m → Before previous bytes → AtMost old bytes) → Covers m previous (λ b. b ≡ bytes) old old
-cover_same m previous bytes old h = record {
-  later = λ l. l;
-  kept = λ b l. l;
-  covers = λ b e spells before. subst (AtMost old) (sym e)
-      (h (subst (λ b. Spells b m) e spells) (subst (Before previous) e before));
-}
-
 at_most_up : (old : Option (List ℕ)) (c b : List ℕ) → (AtMost old c → ⊥) → AtMost old b → UpTo c b
 at_most_up None c b h l = absurd l
 at_most_up (Some d) c b h l = up_chain c d b (before_up c d (by (is_lt (slice_cmp nat_cmp c d)) refl)) l where
