@@ -74,7 +74,9 @@ made_head w true o h = subst (λ w. head_of w ≡ Some (true, o)) h
     (ap (option_map (with_mark true)) (named_opcode (opcode_name o) o refl))
 made_head w false o h = by (bytes_eq (take 5 w) (codes "EVEX.")) refl where
   by : (b : Bool) → bytes_eq (take 5 w) (codes "EVEX.") ≡ b → head_of w ≡ Some (false, o)
-  by true front = let name_so : opcode_name o ≡ codes "EVEX." ++ drop 5 w = h ∙ begun w front in absurd (marked_dot (drop 5 w) (rw name_so at (name_plain o)))
+  by true front =
+      let name_so : opcode_name o ≡ codes "EVEX." ++ drop 5 w = h ∙ begun w front in
+      absurd (marked_dot (drop 5 w) (rw name_so at (name_plain o)))
   by false front = rw front (ap (option_map (with_mark false)) (named_opcode w o h))
 
 -- the meaning of a line has the line's words as its text

@@ -146,7 +146,10 @@ marked_dot bs h = cc
 pub marked : (bs name : List ℕ) (evex : Bool) (o : Opcode) → bs ≡ codes "EVEX." ++ name
     → mark_text evex ++ opcode_name o ≡ bs → (evex ≡ true) × (opcode_name o ≡ name)
 marked bs name true o h e = (refl, append_cancel_left (codes "EVEX.") _ _ (e ∙ h))
-marked bs name false o h e = let name_so : opcode_name o ≡ codes "EVEX." ++ name = e ∙ h in let no = rw name_so at (name_plain o) in absurd (marked_dot name no)
+marked bs name false o h e =
+    let name_so : opcode_name o ≡ codes "EVEX." ++ name = e ∙ h in
+    let no = rw name_so at (name_plain o) in
+    absurd (marked_dot name no)
 
 heads : (x y : Bool) (o p : Opcode) → mark_text x ++ opcode_name o ≡ mark_text y ++ opcode_name p
     → (x ≡ y) × (opcode_name o ≡ opcode_name p)
@@ -176,7 +179,11 @@ pub made_so : {A : Type 0} (r : Option A) (x y : A) → IsSome r → IfSome r (�
 made_so None x y h k e = cc
 made_so (Some made) x y h k e = ap (λ z. Some z) (k ∙ e)
 
-pub same_decoded : (a b : Bool) (o p : Opcode) (os ps : List OperandMeaning) (s t : Option ℕ) → ◌≡◌ {A = Option (Bool × Opcode)} (Some (a, o)) (Some (b, p)) → ◌≡◌ {A = Option (List OperandMeaning × Option ℕ)} (Some (os, s)) (Some (ps, t)) → let x : Decoded = record { meaning = record { evex = a; opcode = o; operands = os; size = s }; len = 0 } in let y : Decoded = record { meaning = record { evex = b; opcode = p; operands = ps; size = t }; len = 0 } in x ≡ y
+pub same_decoded : (a b : Bool) (o p : Opcode) (os ps : List OperandMeaning) (s t : Option ℕ)
+    → ◌≡◌ {A = Option (Bool × Opcode)} (Some (a, o)) (Some (b, p))
+    → ◌≡◌ {A = Option (List OperandMeaning × Option ℕ)} (Some (os, s)) (Some (ps, t))
+    → let x : Decoded = record { meaning = record { evex = a; opcode = o; operands = os; size = s }; len = 0 } in
+    let y : Decoded = record { meaning = record { evex = b; opcode = p; operands = ps; size = t }; len = 0 } in x ≡ y
 same_decoded a b o p os ps s t e f =
     let one : (a, o) ≡ (b, p) = same_Some _ _ e in
     let two : (os, s) ≡ (ps, t) = same_Some _ _ f in

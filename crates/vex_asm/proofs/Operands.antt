@@ -156,10 +156,6 @@ pub few-text : (os : List OperandMeaning) (size : Option ℕ) → AllByRecursion
 few-text os size h k n = let small : nat_le (length os) 4 ≡ true = grind arith in rw (rest_of-text os size h k, small) refl
 
 -- the steps of the loop over the operands
-pub behind-nothing : (read : Option (List OperandMeaning × Option ℕ)) → behind [] read ≡ read
-behind-nothing None = refl
-behind-nothing (Some found) = refl
-
 regroup : (front : List OperandMeaning) (o : OperandMeaning) (read : Option (List OperandMeaning × Option ℕ))
     → behind (front ++ o ∷ []) read ≡ behind front (read >>= λ found. Some (o ∷ found.0, found.1))
 regroup front o None = refl

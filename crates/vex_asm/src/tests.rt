@@ -3,6 +3,7 @@ use crate::{
     texts_are_words, texts_differ,
 };
 use arrayvec::ArrayString;
+use std::process::Abort;
 use std::test::Fail;
 use x86_operand::{
     Address, Index, Instruction, MemoryAccessSize, Opcode, Operand, RegSpec, RegisterBank,
@@ -90,71 +91,118 @@ fn passes_over_blanks(rt: HostRuntime) {
     assert!(rt; read(b"\t VMOVAPS\r\ty0 \r mq5/-/0\t32 \r") == want);
 }
 
-#[test]
-fn refuses_other_texts(rt: HostRuntime) {
-    for text in [
-        "",
-        " \t\r",
-        "0",
-        "VADDPS",
-        "VFOO 0",
-        "vaddps 0",
-        "evex.VADDPS 0",
-        "EVEX.VFOO 0",
-        "EVEX. VADDPS 0",
-        "EVEX.EVEX.VADDPS 0",
-        "VMOVAPS y0 mq5/-/00 32",
-        "VADDPS x0 x1 x2",
-        "VADDPS x0 x1 x2 00",
-        "VADDPS x0 x1 x2 -0",
-        "VADDPS x0 x1 x2 65",
-        "VADDPS x0 x1 x2 18446744073709551616",
-        "VADDPS x0 x1 x2 x3 x4 0",
-        "VADDPS x0,x1 0",
-        "VADDPS x32 0",
-        "VADDPS q16 0",
-        "VADDPS d16 0",
-        "VADDPS x01 0",
-        "VADDPS x 0",
-        "VADDPS x-1 0",
-        "VADDPS x256 0",
-        "VADDPS X1 0",
-        "VADDPS rip0 0",
-        "VADDPS Nothing 0",
-        "VADDPS i 0",
-        "VADDPS i-0 0",
-        "VADDPS i+1 0",
-        "VADDPS i128 0",
-        "VADDPS i-129 0",
-        "VADDPS u256 0",
-        "VADDPS u-1 0",
-        "VADDPS u00 0",
-        "VADDPS m 0",
-        "VADDPS mq0 0",
-        "VADDPS mq0/- 0",
-        "VADDPS mq0/-/ 0",
-        "VADDPS mq0/-/-0 0",
-        "VADDPS mq0/-/01 0",
-        "VADDPS mq0/-/0/0 0",
-        "VADDPS mq0/-*1/0 0",
-        "VADDPS mq0/q1/0 0",
-        "VADDPS mq0/q1*/0 0",
-        "VADDPS mq0/q1*256/0 0",
-        "VADDPS mq0/q1*1*1/0 0",
-        "VADDPS m/-/0 0",
-        "VADDPS mq16/-/0 0",
-        "VADDPS mq0/-/2147483648 0",
-        "VADDPS mq0/-/-2147483649 0",
-        "VADDPS mq0/-/18446744073709551616 0",
-        "VADDPS\u{a0}0",
-        "\u{e9} 0",
-    ] {
+/// That each text is refused.
+fn refused(rt: &impl Abort, texts: &[&str]) {
+    for text in texts {
         assert_eq!(rt;
             read(text.as_bytes()).err(),
             Some(AsmError::BadText),
             "{text}"
         );
     }
+}
+
+#[test]
+fn refuses_other_opcodes(rt: HostRuntime) {
+    refused(
+        &rt,
+        &[
+            "",
+            " \t\r",
+            "0",
+            "VADDPS",
+            "VFOO 0",
+            "vaddps 0",
+            "evex.VADDPS 0",
+            "EVEX.VFOO 0",
+            "EVEX. VADDPS 0",
+            "EVEX.EVEX.VADDPS 0",
+        ],
+    );
+}
+
+#[test]
+fn refuses_other_sizes_and_counts(rt: HostRuntime) {
+    refused(
+        &rt,
+        &[
+            "VADDPS x0 x1 x2",
+            "VADDPS x0 x1 x2 00",
+            "VADDPS x0 x1 x2 -0",
+            "VADDPS x0 x1 x2 65",
+            "VADDPS x0 x1 x2 18446744073709551616",
+            "VADDPS x0 x1 x2 x3 x4 0",
+            "VADDPS x0,x1 0",
+        ],
+    );
+}
+
+#[test]
+fn refuses_other_registers(rt: HostRuntime) {
+    refused(
+        &rt,
+        &[
+            "VADDPS x32 0",
+            "VADDPS q16 0",
+            "VADDPS d16 0",
+            "VADDPS x01 0",
+            "VADDPS x 0",
+            "VADDPS x-1 0",
+            "VADDPS x256 0",
+            "VADDPS X1 0",
+            "VADDPS rip0 0",
+            "VADDPS Nothing 0",
+        ],
+    );
+}
+
+#[test]
+fn refuses_other_immediates(rt: HostRuntime) {
+    refused(
+        &rt,
+        &[
+            "VADDPS i 0",
+            "VADDPS i-0 0",
+            "VADDPS i+1 0",
+            "VADDPS i128 0",
+            "VADDPS i-129 0",
+            "VADDPS u256 0",
+            "VADDPS u-1 0",
+            "VADDPS u00 0",
+        ],
+    );
+}
+
+#[test]
+fn refuses_other_addresses(rt: HostRuntime) {
+    refused(
+        &rt,
+        &[
+            "VMOVAPS y0 mq5/-/00 32",
+            "VADDPS m 0",
+            "VADDPS mq0 0",
+            "VADDPS mq0/- 0",
+            "VADDPS mq0/-/ 0",
+            "VADDPS mq0/-/-0 0",
+            "VADDPS mq0/-/01 0",
+            "VADDPS mq0/-/0/0 0",
+            "VADDPS mq0/-*1/0 0",
+            "VADDPS mq0/q1/0 0",
+            "VADDPS mq0/q1*/0 0",
+            "VADDPS mq0/q1*256/0 0",
+            "VADDPS mq0/q1*1*1/0 0",
+            "VADDPS m/-/0 0",
+            "VADDPS mq16/-/0 0",
+            "VADDPS mq0/-/2147483648 0",
+            "VADDPS mq0/-/-2147483649 0",
+            "VADDPS mq0/-/18446744073709551616 0",
+        ],
+    );
+}
+
+#[test]
+fn refuses_bytes_that_no_text_has(rt: HostRuntime) {
+    refused(&rt, &["VADDPS\u{a0}0", "\u{e9} 0"]);
     assert!(rt; read(b"\xff 0").is_err());
 }
 

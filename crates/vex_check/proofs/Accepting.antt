@@ -1,7 +1,7 @@
 -- Which settings accept a run.
-use Rattle.std.proofs.Common.{◌||◌, subst, ◌≡◌, ℕ, ◌<◌, ◌≤◌, Bool, true, false, not, List, [], ◌∷◌, Option, Some, None}
-use Rattle.std.proofs.Common.{refl, sym, ap, ◌∙◌, arith, le_refl}
-use Rattle.std.specs.Prelude.{◌==◌, All, Contains, IsTrue, cond, find, map, option_map}
+use Rattle.std.proofs.Common.{◌||◌, subst, ◌≡◌, ℕ, ◌≤◌, Bool, true, false, not, List, [], ◌∷◌, Option, Some, None}
+use Rattle.std.proofs.Common.{refl, sym, ap, ◌∙◌, arith}
+use Rattle.std.specs.Prelude.{◌==◌, All, Contains, cond, find, option_map}
 use Rattle.std.specs.List.{cons_option, filter_map, list_any, range_with_len}
 use Rattle.std.proofs.lemmas.List.Elements.{All-cons, All-contains, All-nil}
 use Rattle.std.proofs.lemmas.Bool.{eqb-true}
@@ -18,15 +18,15 @@ use Rattle.vex_encode.specs.declared.sweeper.SweepEnd.{SweepEnd}
 use Rattle.vex_encode.specs.declared.sweeper.SweepEnd.TheVariants.{End, Stopped}
 use Rattle.vex_encode.specs.Sweep.{Swept, SweptItem, swept}
 use Rattle.vex_check.specs.declared.needs.First.{First}
-use Rattle.vex_check.specs.Needs.{all_needed, end_fault, fault, fault_by, first_needing, first_of, firsts, is_marked}
+use Rattle.vex_check.specs.Needs.{all_needed, fault, fault_by, first_needing, first_of, firsts, is_marked}
 use Rattle.vex_check.specs.Needs.{needs, run}
-use Rattle.vex_check.specs.Accepted.{EndsWhereCovered, IsLeastLack, NeedsSayWhoAccepts, NeedsSayWhereOthersStop}
-use Rattle.vex_check.specs.Accepted.{StopsAtLack, StopsAtLeastLack}
+use Rattle.vex_check.specs.Accepted.{IsLeastLack, NeedsSayWhoAccepts, NeedsSayWhereOthersStop}
+use Rattle.vex_check.specs.Accepted.{StopsAtLack}
 use Rattle.vex_check.proofs.Bits.{below, each-among, false-is-not-true, five, from-made, lacking, needed-five, set-each}
 use Rattle.vex_check.proofs.Bits.{to-made}
-use Rattle.vex_check.proofs.Places.{Ascend, FoundAt, FoundBy, contains-here, contains-later, found-at, found-sooner}
+use Rattle.vex_check.proofs.Places.{Ascend, FoundBy, contains-here, contains-later, found-at, found-sooner}
 use Rattle.vex_check.proofs.Places.{none-passes}
-use Rattle.vex_check.proofs.Runs.{IsVex, cut_end, end-cut, end_at, is_permitted, run-ascends, run-vex}
+use Rattle.vex_check.proofs.Runs.{IsVex, end-cut, end_at, is_permitted, run-ascends, run-vex}
 
 no-some : {item : SweptItem} → None ≡ Some item → ⊥
 no-some e = cc
@@ -69,7 +69,9 @@ any-found p (first ∷ items) h = by (p first) refl h (λ k. any-found p items k
   by : (b : Bool) → p first ≡ b → (b || list_any p items) ≡ true → (list_any p items ≡ true → Found p items)
       → Found p (first ∷ items)
   by true e h later = record { item = first; is = ap (λ c. cond c (Some first) (find p items)) e }
-  by false e h later = let l = later h in record { item = l.item; is = ap (λ c. cond c (Some first) (find p items)) e ∙ l.is }
+  by false e h later =
+      let l = later h in
+      record { item = l.item; is = ap (λ c. cond c (Some first) (find p items)) e ∙ l.is }
 
 -- what is kept of a list that is mapped
 kept-contains : (f : ℕ → Option First) (bits : List ℕ) (bit : ℕ) (first : First) → is_among bits bit ≡ true

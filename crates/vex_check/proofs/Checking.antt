@@ -1,6 +1,6 @@
 -- A check, instruction by instruction.
-use Rattle.std.proofs.Common.{◌≡◌, ℕ, zero, suc, ◌+◌, ◌-◌, ◌<◌, ◌≤◌, Bool, true, false, List, [], ◌∷◌, ◌++◌, length}
-use Rattle.std.proofs.Common.{take, drop, Option, Some, None, Result, Ok, Err, refl, sym, ap, ◌∙◌, arith, append_assoc}
+use Rattle.std.proofs.Common.{◌≡◌, ℕ, ◌+◌, ◌-◌, ◌<◌, ◌≤◌, Bool, true, false, List, [], ◌∷◌, ◌++◌, length}
+use Rattle.std.proofs.Common.{drop, Some, None, Result, Ok, Err, refl, sym, ap, ◌∙◌, arith, append_assoc}
 use Rattle.std.specs.Prelude.{cond, find, if◌then◌else◌}
 use Rattle.std.specs.Option.{option_or}
 use Rattle.std.proofs.lemmas.List.{append-nil, drop-drop, drop_all, length-append, length-drop}
@@ -13,14 +13,13 @@ use Rattle.x86_settings.specs.Sets.{exactly}
 use Rattle.x86_permit.specs.LeastSettings.{least}
 use Rattle.vex_rows.specs.Row.{opcode_of}
 use Rattle.vex_forms.specs.Gives.{gives}
-use Rattle.vex_decode.specs.Spelling.{Spells, meant}
+use Rattle.vex_decode.specs.Spelling.{Spells}
 use Rattle.vex_decode.specs.Laws.{VexOpcodes}
 use Rattle.vex_encode.specs.declared.sweeper.SweepEnd.TheVariants.{End, Stopped}
 use Rattle.vex_encode.specs.Sweep.{Swept, SweptItem, first_of_bytes, item_at, onto, swept_by, swept_from}
 use Rattle.vex_encode.specs.Sweep.Lemmas.{from-step}
 use Rattle.vex_check.specs.declared.needs.RunCause.{RunCause}
 use Rattle.vex_check.specs.declared.needs.RunCause.TheVariants.{Marked}
-use Rattle.vex_check.specs.declared.needs.RunFault.{RunFault}
 use Rattle.vex_check.specs.declared.first_places.FirstPlaces.{FirstPlaces}
 use Rattle.vex_check.specs.Needs.{all_needed, fault, fault_by, firsts, is_marked, run}
 use Rattle.vex_check.specs.FirstPlaces.{all_there, bits_there, cause_of, noted}

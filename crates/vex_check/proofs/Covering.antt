@@ -1,5 +1,5 @@
 -- The test whether settings have every bit of others.
-use Rattle.std.proofs.Common.{◌≡◌, ℕ, zero, suc, ◌+◌, ◌<◌, ◌≤◌, Bool, true, false, not, ◌||◌, List, length, IsTrue}
+use Rattle.std.proofs.Common.{◌≡◌, ℕ, zero, suc, ◌+◌, ◌<◌, Bool, true, false, not, ◌||◌, List, length, IsTrue}
 use Rattle.std.proofs.Common.{arith, refl, sym, ap, ◌∙◌, inl, inr, zero-add, add-zero}
 use Rattle.std.specs.Prelude.{◌↔◌}
 use Rattle.std.specs.List.{list_all, range_with_len}
@@ -22,7 +22,9 @@ in-all : (p : ℕ → Bool) (n a : ℕ) → ((i : ℕ) → i < n → p (a + i) �
 in-all p zero a h = refl
 in-all p (suc n) a h =
     and_from _ _ (ap p (sym (add-zero a)) ∙ h 0 (omega arith))
-    (in-all p n (a + 1) (λ i below. let e : a + 1 + i ≡ a + suc i = omega arith in ap p e ∙ h (suc i) (omega (arith, below))))
+    (in-all p n (a + 1) (λ i below.
+    let e : a + 1 + i ≡ a + suc i = omega arith in
+    ap p e ∙ h (suc i) (omega (arith, below))))
 
 either : (b c : Bool) → (b ≡ true → c ≡ true) → (not b || c) ≡ true
 either true c h = h refl

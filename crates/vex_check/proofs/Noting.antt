@@ -1,6 +1,6 @@
 -- The first places that need each of the five bits, instruction by instruction.
 use Rattle.std.proofs.Common.{◌≡◌, ℕ, ◌+◌, ◌<◌, ◌||◌, Bool, true, false, List, [], ◌∷◌, ◌++◌, Option, Some, None, refl}
-use Rattle.std.proofs.Common.{sym, ap, subst, ◌∙◌, arith, zero-add}
+use Rattle.std.proofs.Common.{sym, ap, ◌∙◌, arith, zero-add}
 use Rattle.std.specs.Prelude.{◌==◌, cond, filter, find, is_some, if◌then◌else◌, map, option_map}
 use Rattle.std.specs.List.{cons_option, filter_map, list_any, range_with_len}
 use Rattle.std.specs.Option.{option_or}
@@ -14,7 +14,7 @@ use Rattle.vex_encode.specs.Sweep.{SweptItem}
 use Rattle.vex_check.specs.declared.needs.First.{First}
 use Rattle.vex_check.specs.declared.first_places.FirstPlaces.{FirstPlaces}
 use Rattle.vex_check.specs.Needs.{all_needed, first_needing, first_of, firsts, needs}
-use Rattle.vex_check.specs.FirstPlaces.{all_there, bits_there, kept, noted, to_list, with_bit_of}
+use Rattle.vex_check.specs.FirstPlaces.{all_there, bits_there, kept, noted, to_list}
 use Rattle.vex_check.proofs.Bits.{five, made-at, needed-five}
 
 -- the first places of a run that need each bit

@@ -1,8 +1,7 @@
 -- Instructions of a run in ascending order of their places.
-use Rattle.std.proofs.Common.{◌≡◌, ℕ, suc, ◌≤◌, subst, Bool, true, false, List, [], ◌∷◌, Option, Some, None, refl, sym}
+use Rattle.std.proofs.Common.{◌≡◌, ℕ, suc, ◌≤◌, subst, Bool, true, false, List, [], ◌∷◌, Some, None, refl, sym}
 use Rattle.std.proofs.Common.{ap, ◌∙◌, arith}
-use Rattle.std.specs.Prelude.{All, Contains, cond, find, option_map}
-use Rattle.std.specs.List.{filter_map, cons_option}
+use Rattle.std.specs.Prelude.{All, Contains, cond, find}
 use Rattle.std.proofs.lemmas.List.Elements.{All-cons, All-nil}
 use Rattle.vex_encode.specs.Sweep.{SweptItem}
 use Rattle.vex_check.proofs.Bits.{false-is-not-true}
@@ -75,7 +74,9 @@ found-after p place (first ∷ items) item up h =
     by (p first) refl h (λ k. found-after p first.place items item up.1 k) where
       by : (b : Bool) → p first ≡ b → cond b (Some first) (find p items) ≡ Some item
           → (find p items ≡ Some item → first.place ≤ item.place) → place ≤ item.place
-      by true e h later = let s : first.place ≡ item.place = ap (λ (i : SweptItem). i.place) (some-same h) in omega (arith, s, up.0)
+      by true e h later =
+          let s : first.place ≡ item.place = ap (λ (i : SweptItem). i.place) (some-same h) in
+          omega (arith, s, up.0)
       by false e h later = omega (arith, later h, up.0)
 
 -- where what is found by one test passes another, the other finds something no later

@@ -1,5 +1,5 @@
 -- A sweep under any settings, by the sweep under all: it is stopped at the first instruction that isn't permitted.
-use Rattle.std.proofs.Common.{◌≡◌, ℕ, zero, suc, ◌+◌, ◌-◌, ◌<◌, ◌≤◌, Bool, true, false, not, List, [], ◌∷◌, Option}
+use Rattle.std.proofs.Common.{◌≡◌, ℕ, zero, suc, ◌+◌, ◌-◌, Bool, true, false, not, List, [], ◌∷◌, Option}
 use Rattle.std.proofs.Common.{Some, None, Result, Ok, Err, refl, sym, ap, ◌∙◌, arith, le_refl}
 use Rattle.std.specs.Prelude.{All, cond, find, if◌then◌else◌}
 use Rattle.std.proofs.lemmas.List.Elements.{All-cons, All-nil}
@@ -16,13 +16,13 @@ use Rattle.x86_address.specs.Reading.{Reading}
 use Rattle.vex_rows.specs.Row.{Row, mark_of, opcode_of}
 use Rattle.vex_forms.specs.FormWalk.{taken}
 use Rattle.vex_forms.specs.Gives.{gives}
-use Rattle.vex_decode.specs.Spelling.{Syntax, meant}
+use Rattle.vex_decode.specs.Spelling.{Syntax}
 use Rattle.vex_decode.specs.Walk.{walk}
 use Rattle.vex_decode.specs.Blocked.{refused}
 use Rattle.vex_decode.specs.Laws.{ReadingIsSpelling, VexOpcodes}
 use Rattle.vex_encode.specs.declared.sweeper.SweepEnd.{SweepEnd}
 use Rattle.vex_encode.specs.declared.sweeper.SweepEnd.TheVariants.{Stopped}
-use Rattle.vex_encode.specs.Sweep.{Swept, SweptItem, decoded_by, decoded_unless, first_of_bytes, item_at, onto}
+use Rattle.vex_encode.specs.Sweep.{Swept, SweptItem, decoded_by, decoded_unless, first_of_bytes, item_at}
 use Rattle.vex_encode.specs.Sweep.{swept_by, swept_from}
 use Rattle.vex_check.proofs.Places.{Ascend, ascend-from}
 

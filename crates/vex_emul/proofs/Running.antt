@@ -1,5 +1,5 @@
 -- A run, instruction by instruction.
-use Rattle.std.proofs.Common.{◌≡◌, refl, sym, ◌∙◌, ap, ℕ, zero, suc, ◌+◌, ◌-◌, ◌<◌, ◌≤◌, Bool, List, [], ◌∷◌, ◌++◌}
+use Rattle.std.proofs.Common.{◌≡◌, sym, ◌∙◌, ap, ℕ, zero, suc, ◌+◌, ◌-◌, ◌<◌, ◌≤◌, Bool, List, [], ◌∷◌, ◌++◌}
 use Rattle.std.proofs.Common.{length, take, drop, Some, None, Ok, Err, arith, true, false, cond, add-zero}
 use Rattle.std.proofs.Common.{take-append-drop}
 use Rattle.std.specs.Prelude.{Option, map, replicate, nat_le}
@@ -179,9 +179,6 @@ pub record Running (settings : List Bool) (start : State) (code : List ℕ) (sta
     pub same : ran settings start code ≡ ran_from settings 0 state place count (drop place code)
 
 module _ (settings : List Bool) (start : State) (code : List ℕ) where
-  pub Running-first : Running settings start code start 0 0
-  Running-first = record { within = omega arith; counted = omega arith; room = refl; same = refl }
-
   module _ (state : State) (place count : ℕ) (so_far : Running settings start code state place count) where
     pub Running-step : (next : State) (len : ℕ) → step settings state (drop place code) ≡ Ok (next, len)
         → 1 ≤ len → len ≤ length (drop place code) → length next.memory ≡ length state.memory

@@ -56,7 +56,9 @@ pub these_are_all : SpellingIsRead → ReadingIsSpelling → SpellingBytes → S
 unfolding all_spellings
 these_are_all read law are_bytes long m = record {
   ascending = ascending_filter (is_spelling m) (strings 11) (ascending_strings 11);
-  spelled = λ b k. let kept = from-filter (is_spelling m) b (strings 11) k in is_spelled law m b (bytes_in_strings 11 b kept.1) kept.0;
+  spelled = λ b k.
+      let kept = from-filter (is_spelling m) b (strings 11) k in
+      is_spelled law m b (bytes_in_strings 11 b kept.1) kept.0;
   complete = λ b s. among-filter (is_spelling m) b (strings 11) (spelled_is read m b s)
       (in_strings 11 b (are_bytes b m s) (long b m s).1);
 }
@@ -114,7 +116,9 @@ first_found p [] found other a e m h = absurd m
 first_found p (x ∷ xs) found other a e m h = by (p x) refl e m (λ k l. first_found p xs found other a.1 k l h) where
   by : (b : Bool) → p x ≡ b → cond b (Some x) (find p xs) ≡ Some found → Among other (x ∷ xs)
       → (find p xs ≡ Some found → Among other xs → UpTo found other) → UpTo found other
-  by true k e (inl same) next = let is : x ≡ found = cc in subst (λ f. UpTo f other) is (subst (UpTo x) (sym same) (up_itself x))
+  by true k e (inl same) next =
+      let is : x ≡ found = cc in
+      subst (λ f. UpTo f other) is (subst (UpTo x) (sym same) (up_itself x))
   by true k e (inr l) next = let is : x ≡ found = cc in subst (λ f. UpTo f other) is (before_up x other (a.0 other l))
   by false k e (inl same) next = let no : p other ≡ false = ap p same ∙ k in absurd (cc)
   by false k e (inr l) next = next e l
@@ -127,7 +131,9 @@ module _ (m : Meaning) (all : List (List ℕ)) (lists : IsListOfAll m all) (prev
   some_after : (c : List ℕ) → IsNext m previous (Some c) → Some c ≡ find (is_before previous) all
   some_after c next = by (find (is_before previous) all) refl where
     by : (o : Option (List ℕ)) → find (is_before previous) all ≡ o → Some c ≡ o
-    by None e = let no = none-find (is_before previous) all c e (lists.complete c next.later.0) in absurd (cc (no, next.later.1))
+    by None e =
+        let no = none-find (is_before previous) all c e (lists.complete c next.later.0) in
+        absurd (cc (no, next.later.1))
     by (Some d) e =
         let found = found-find (is_before previous) all d e in
         ap Some (same_string c d (next.least d (lists.spelled d found.0) found.1)

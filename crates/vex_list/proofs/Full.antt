@@ -17,36 +17,20 @@ is_full form row =
     && (not (steps form).modrm || has_groups form || list_any names_g (slots_of form row))
     && (not (steps form).imm || list_any names_imm (slots_of form row))
 
-by_kind : (test : Kind → Bool) → test WithoutModRM ≡ true → test InRegister ≡ true → test InMemory ≡ true
-    → test VectorIndexed ≡ true → (kind : Kind) → test kind ≡ true
-by_kind test a b c d WithoutModRM = a
-by_kind test a b c d InRegister = b
-by_kind test a b c d InMemory = c
-by_kind test a b c d VectorIndexed = d
-
-full_without : (form : Form) (row : Row) → is_full form (row_at row.entry row.w row.l WithoutModRM row.group) ≡ true
+full_at : (form : Form) (row : Row) (kind : Kind)
+    → is_full form (row_at row.entry row.w row.l kind row.group) ≡ true
 unfolding steps has_groups form_row
-full_without Nothing row = refl
-full_without _ row = refl
-
-full_register : (form : Form) (row : Row) → is_full form (row_at row.entry row.w row.l InRegister row.group) ≡ true
-unfolding steps has_groups form_row
-full_register Nothing row = refl
-full_register _ row = refl
-
-full_memory : (form : Form) (row : Row) → is_full form (row_at row.entry row.w row.l InMemory row.group) ≡ true
-unfolding steps has_groups form_row
-full_memory Nothing row = refl
-full_memory _ row = refl
-
-full_vector : (form : Form) (row : Row) → is_full form (row_at row.entry row.w row.l VectorIndexed row.group) ≡ true
-unfolding steps has_groups form_row
-full_vector Nothing row = refl
-full_vector _ row = refl
+full_at Nothing row WithoutModRM = refl
+full_at _ row WithoutModRM = refl
+full_at Nothing row InRegister = refl
+full_at _ row InRegister = refl
+full_at Nothing row InMemory = refl
+full_at _ row InMemory = refl
+full_at Nothing row VectorIndexed = refl
+full_at _ row VectorIndexed = refl
 
 full : (form : Form) (row : Row) → is_full form row ≡ true
-full form row = by_kind (λ kind. is_full form (row_at row.entry row.w row.l kind row.group)) (full_without form row)
-    (full_register form row) (full_memory form row) (full_vector form row) row.kind
+full form row = full_at form row row.kind
 
 pub record Full (row : Row) : Type 0 where
   pub e : (not (steps row.entry.form).modrm || list_any names_e (slots_of row.entry.form row)) ≡ true

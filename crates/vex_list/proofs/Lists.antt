@@ -10,7 +10,7 @@ use Rattle.std.proofs.Common.{arith, ap, sym, ◌∙◌, inl, inr, subst}
 use Rattle.x86_operand.specs.Meaning.{Meaning}
 use Rattle.vex_decode.specs.Spelling.{Spells}
 use Rattle.vex_list.specs.Order.{AtMost, Before, UpTo}
-use Rattle.vex_list.specs.Next.{Between, ByBit, Covers, Either}
+use Rattle.vex_list.specs.Next.{Between, Covers, Either}
 
 -- what isn't before a string isn't left behind by it
 lt_reverse : (o : Ordering) → is_lt (ordering_reverse o) ≡ is_gt o
@@ -64,16 +64,6 @@ some_bytes (Some found) bytes there is = ap Some is
 
 -- ---- the nearest so far
 
--- it stays where the bytes aren't wanted
-pub cover_same : (m : Meaning) (previous : List ℕ) (bytes : List ℕ) (old : Option (List ℕ)) →
-    (Spells bytes m → Before previous bytes → AtMost old bytes) → Covers m previous (λ b. b ≡ bytes) old old
-cover_same m previous bytes old h = record {
-  later = λ l. l;
-  kept = λ b l. l;
-  covers = λ b e spells before. subst (AtMost old) (sym e)
-      (h (subst (λ b. Spells b m) e spells) (subst (Before previous) e before));
-}
-
 at_most_up : (old : Option (List ℕ)) (c b : List ℕ) → (AtMost old c → ⊥) → AtMost old b → UpTo c b
 at_most_up None c b h l = absurd l
 at_most_up (Some d) c b h l = up_chain c d b (before_up c d (by (is_lt (slice_cmp nat_cmp c d)) refl)) l where
@@ -109,15 +99,6 @@ module _ (m : Meaning) (previous : List ℕ) where
           before
     ];
   }
-
-  -- over the sets of both bits
-  pub cover_bits : (over : Bool → List ℕ → Type 0) (a b c : Option (List ℕ)) → Covers m previous (over false) a b
-      → Covers m previous (over true) b c → Covers m previous (ByBit over) a c
-  cover_bits over a b c p q = cover_fewer (Either (over false) (over true)) (ByBit over) a c (λ s t. by t.0 t.1)
-      (cover_either (over false) (over true) a b c p q) where
-        by : {s : List ℕ} (bit : Bool) → over bit s → Either (over false) (over true) s
-        by false t = inl t
-        by true t = inr t
 
   -- over no string
   pub cover_empty : (over : List ℕ → Type 0) (a : Option (List ℕ)) → ((b : List ℕ) → over b → ⊥)

@@ -275,7 +275,8 @@ module _ (row : Row) (s : Syntax) (is_row : IsRow row) (is : IsSyntax row s) whe
         | inl has ↦ by_slot (found names_imm operand (slots row) (asked _ _ (full_row row).imm has))
         | inr without ↦ elim (first_or_none names_imm operand (slots row)) [
           | inl first ↦ by_slot first
-          | inr none ↦ subst (λ o. (imm_of o ≤ s.imm) × (s.imm < imm_of o + lows_of o)) (sym none.0) (let z = imm_zero _ s.imm is.imm without in (omega arith, omega (arith, z)))
+          | inr none ↦ subst (λ o. (imm_of o ≤ s.imm) × (s.imm < imm_of o + lows_of o)) (sym none.0)
+              (omega arith, omega (arith, imm_zero _ s.imm is.imm without))
         ]
       ]
 

@@ -24,7 +24,11 @@ less_first j k a b h = ap (λ o. is_lt (ordering_then o (slice_cmp nat_cmp a b))
 
 ascending_map : (k : ℕ) (tails : List (List ℕ)) → Ascending tails → Ascending (map (λ tail. k ∷ tail) tails)
 ascending_map k [] a = tt
-ascending_map k (t ∷ tails) a = (λ other m. let from = from-map (λ tail. k ∷ tail) other tails m in subst (Before (k ∷ t)) (sym from.2) (same_first k t from.0 (a.0 from.0 from.1)), ascending_map k tails a.1)
+ascending_map k (t ∷ tails) a = (before, ascending_map k tails a.1) where
+  before : (other : List ℕ) → Among other (map (λ tail. k ∷ tail) tails) → Before (k ∷ t) other
+  before other m =
+      let from = from-map (λ tail. k ∷ tail) other tails m in
+      subst (Before (k ∷ t)) (sym from.2) (same_first k t from.0 (a.0 from.0 from.1))
 
 ascending_append : (xs ys : List (List ℕ)) → Ascending xs → Ascending ys
     → ((x y : List ℕ) → Among x xs → Among y ys → Before x y) → Ascending (xs ++ ys)
@@ -56,8 +60,19 @@ from_joined : (tails : List (List ℕ)) (n k : ℕ) (b : List ℕ) → Among b (
 unfolding joined
 from_joined tails zero k b m = absurd m
 from_joined tails (suc n) k b m = elim (among-append b (map (λ tail. k ∷ tail) tails) (joined tails n (k + 1)) m) [
-  | inl h ↦ let t = from-map (λ tail. k ∷ tail) b tails h in record { first = k; tail = t.0; from = omega arith; below = omega arith; among = t.1; is = t.2 }
-  | inr h ↦ let later = from_joined tails n (k + 1) b h in record { first = later.first; tail = later.tail; from = omega (arith, later.from); below = omega (arith, later.below); among = later.among; is = later.is }
+  | inl h ↦
+      let t = from-map (λ tail. k ∷ tail) b tails h in
+      record { first = k; tail = t.0; from = omega arith; below = omega arith; among = t.1; is = t.2 }
+  | inr h ↦
+      let later = from_joined tails n (k + 1) b h in
+      record {
+        first = later.first;
+        tail = later.tail;
+        from = omega (arith, later.from);
+        below = omega (arith, later.below);
+        among = later.among;
+        is = later.is;
+      }
 ]
 
 to_joined : (tails : List (List ℕ)) (n k first : ℕ) (tail : List ℕ) → k ≤ first → first < k + n → Among tail tails
@@ -86,14 +101,18 @@ ascending_joined tails (suc n) k a = ascending_append (map (λ tail. k ∷ tail)
 pub ascending_strings : (n : ℕ) → Ascending (strings n)
 unfolding strings
 ascending_strings zero = (λ other m. absurd m, tt)
-ascending_strings (suc n) = (λ other m. let t = from_joined (strings n) 256 0 other m in subst (Before []) (sym t.is) refl, ascending_joined (strings n) 256 0 (ascending_strings n))
+ascending_strings (suc n) = (before, ascending_joined (strings n) 256 0 (ascending_strings n)) where
+  before : (other : List ℕ) → Among other (joined (strings n) 256 0) → Before [] other
+  before other m = let t = from_joined (strings n) 256 0 other m in subst (Before []) (sym t.is) refl
 
 pub bytes_in_strings : (n : ℕ) (b : List ℕ) → Among b (strings n) → IsBytes b
 unfolding strings
 bytes_in_strings zero b (inl e) = subst IsBytes (sym e) tt
 bytes_in_strings zero b (inr m) = absurd m
 bytes_in_strings (suc n) b (inl e) = subst IsBytes (sym e) tt
-bytes_in_strings (suc n) b (inr m) = let t = from_joined (strings n) 256 0 b m in subst IsBytes (sym t.is) (omega (arith, t.below), bytes_in_strings n t.tail t.among)
+bytes_in_strings (suc n) b (inr m) =
+    let t = from_joined (strings n) 256 0 b m in
+    subst IsBytes (sym t.is) (omega (arith, t.below), bytes_in_strings n t.tail t.among)
 
 pub in_strings : (n : ℕ) (b : List ℕ) → IsBytes b → length b ≤ n → Among b (strings n)
 unfolding strings

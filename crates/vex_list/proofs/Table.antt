@@ -1,8 +1,9 @@
 -- Every spelling is that of a choice of an entry of the opcode.
-use Rattle.std.specs.Prelude.{◌≡◌, refl, ◌↔◌, ◌⊎◌, IfSome, IsNone, ℕ, ◌+◌, ◌≤◌, ◌<◌, Bool, true, false, ◌&&◌, List, []}
-use Rattle.std.specs.Prelude.{◌∷◌, length, Option, Some, None, if◌then◌else◌, take}
+use Rattle.std.specs.Prelude.{◌≡◌, refl, ◌↔◌, ◌⊎◌, IfSome, IsNone, ℕ, ◌+◌, ◌*◌, ◌/◌, ◌%◌, ◌==◌, ◌≤◌, ◌<◌, Bool, true}
+use Rattle.std.specs.Prelude.{false, ◌&&◌, List, [], ◌∷◌, length, Option, Some, None, if◌then◌else◌, take}
 use Rattle.std.proofs.Common.{zero, suc, get_or, add-one, inl, inr, arith, ap, sym, ◌∙◌, subst}
 use Rattle.x86_operand.specs.Meaning.{Meaning}
+use Rattle.x86_address.specs.Bytes.{bit}
 use Rattle.vex_rows.specs.declared.entry.Entry.{Entry}
 use Rattle.vex_rows.specs.Entries.{entries_with}
 use Rattle.vex_rows.specs.Laws.{RowsHaveEntries}
@@ -18,8 +19,8 @@ use Rattle.vex_forms.specs.declared.row_layout.RowLayout.{RowLayout}
 use Rattle.vex_decode.specs.Spelling.{Syntax, Spells, SpellsBy, meant}
 use Rattle.vex_decode.specs.Laws.{SpellingLength}
 use Rattle.vex_list.specs.Order.{Before, IsNext, UpTo}
-use Rattle.vex_list.specs.Next.{Covers, Either}
-use Rattle.vex_list.specs.Sets.{ByChosen, ByGroup, ByEntry, ByEntries}
+use Rattle.vex_list.specs.Next.{Between, Covers, Either}
+use Rattle.vex_list.specs.Sets.{ByChosen, ByEntry, ByEntries}
 use Rattle.vex_list.proofs.Lists.{cover_empty}
 
 -- what a row means has its opcode and its size
@@ -47,9 +48,12 @@ by_table m have are b s =
       is_row = subst IsRow choice.row_is s.is_row;
       by = subst (SpellsBy b m) choice.row_is s.by;
     } in
-    let group : ByGroup m s.row.entry s.row.w choice.l choice.memory b =
-    (choice.group, omega arith, choice.small, chosen) in
-    let entry : ByEntry m s.row.entry b = (s.row.w, (choice.l, (choice.memory, group))) in (
+    let entry : ByEntry m s.row.entry b = (
+      s.row.w,
+      choice.l,
+      choice.memory,
+      (choice.group, omega arith, choice.small, chosen),
+    ) in (
       s.row.entry,
       subst (λ opcode. Among s.row.entry (entries_with opcode)) (sym (opcode_spelled m s.row b s.by))
           (have s.row s.is_row),
@@ -81,7 +85,9 @@ first_none long m (Some first) next = (λ h. cc, λ none. absurd (none first nex
 -- a row exists
 exists_row : (row : Row) → IsRow row → exists row ≡ true
 unfolding exists
-exists_row row is_row = let chosen = chosen-row row is_row in parts-both _ _ (parts-both _ _ chosen.w chosen.l) chosen.checks
+exists_row row is_row =
+    let chosen = chosen-row row is_row in
+    parts-both _ _ (parts-both _ _ chosen.w chosen.l) chosen.checks
 
 some_same : {A : Type 0} (x y : A) → Some x ≡ Some y → x ≡ y
 some_same x y e = cc
@@ -136,9 +142,62 @@ one_group m entry w l memory group b none t =
     }) none) in
     record { may_be = t.may_be; is_row = subst IsRow same t.is_row; by = subst (SpellsBy b m) same t.by }
 
-pub without_groups : (m : Meaning) (entry : Entry) (w l memory : Bool) (b : List ℕ) → has_groups entry.form ≡ false
-    → ByGroup m entry w l memory b → ByChosen m entry w l memory 0 b
-without_groups m entry w l memory b none t = one_group m entry w l memory t.0 b none t.3
+-- ---- the numbers of the choices of an entry
+
+bit_below : (b : Bool) → bit b < 2
+bit_below true = omega arith
+bit_below false = omega arith
+
+odd_bit : (n : ℕ) (b : Bool) → n % 2 ≡ bit b → (n % 2 == 1) ≡ b
+odd_bit n true e = rw e refl
+odd_bit n false e = rw e refl
+
+-- the number of a choice
+abbrev number : Bool → Bool → Bool → ℕ → ℕ
+number w l memory group = 8 * group + 4 * bit w + 2 * bit l + bit memory
+
+-- each choice has a number, and says by it what it was
+by_number : (m : Meaning) (entry : Entry) (b : List ℕ) (w l memory : Bool) (group : ℕ)
+    → ByChosen m entry w l memory group b
+    → let n = number w l memory group in
+    ByChosen m entry (n / 4 % 2 == 1) (n / 2 % 2 == 1) (n % 2 == 1) (n / 8) b
+by_number m entry b w l memory group t =
+    let small : (bit w < 2) × (bit l < 2) × (bit memory < 2) = (bit_below w, bit_below l, bit_below memory) in
+    let n = number w l memory group in
+    let w_is = odd_bit (n / 4) w (omega (arith, small.0, small.1, small.2)) in
+    let l_is = odd_bit (n / 2) l (omega (arith, small.0, small.1, small.2)) in
+    let memory_is = odd_bit n memory (omega (arith, small.0, small.1, small.2)) in
+    let group_is : n / 8 ≡ group = omega (arith, small.0, small.1, small.2) in
+    subst (λ w. ByChosen m entry w (n / 2 % 2 == 1) (n % 2 == 1) (n / 8) b) (sym w_is)
+    (subst (λ l. ByChosen m entry w l (n % 2 == 1) (n / 8) b) (sym l_is)
+    (subst (λ memory. ByChosen m entry w l memory (n / 8) b) (sym memory_is)
+    (subst (λ group. ByChosen m entry w l memory group b) (sym group_is) t)))
+
+-- all are among them, and without groups among the first eight
+pub by_numbers : (m : Meaning) (entry : Entry) (b : List ℕ) → ByEntry m entry b
+    → Between 0 (if has_groups entry.form then 64 else 8)
+    (λ n. ByChosen m entry (n / 4 % 2 == 1) (n / 2 % 2 == 1) (n % 2 == 1) (n / 8)) b
+by_numbers m entry b (w, l, memory, (group, from, below, t)) = by (has_groups entry.form) refl where
+  small : number w l memory group < 8 * group + 8
+  small = omega (arith, bit_below w, bit_below l, bit_below memory)
+
+  small_zero : number w l memory 0 < 8
+  small_zero = omega (arith, bit_below w, bit_below l, bit_below memory)
+
+  by : (has : Bool) → has_groups entry.form ≡ has → Between 0 (if has then 64 else 8)
+      (λ n. ByChosen m entry (n / 4 % 2 == 1) (n / 2 % 2 == 1) (n % 2 == 1) (n / 8)) b
+  by true e = (
+    number w l memory group,
+    omega arith,
+    omega (arith, small, below),
+    by_number m entry b w l memory group t,
+  )
+  by false e = (
+    number w l memory 0,
+    omega arith,
+    small_zero,
+    by_number m entry b w l memory 0 (one_group m entry w l memory group b e t),
+  )
 
 -- the strings of one more entry
 more_entries : (entries : List Entry) (i : ℕ) (other entry : Entry) → i < length entries

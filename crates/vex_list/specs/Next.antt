@@ -1,5 +1,5 @@
 -- The nearest of a set of byte strings. Private functions alone cite what stands here.
-use Rattle.std.specs.Prelude.{◌⊎◌, ℕ, ◌≤◌, ◌<◌, Bool, List, Option}
+use Rattle.std.specs.Prelude.{◌⊎◌, ℕ, ◌≤◌, ◌<◌, List, Option}
 use Rattle.x86_operand.specs.Meaning.{Meaning}
 use Rattle.vex_decode.specs.Spelling.{Spells}
 use Rattle.vex_list.specs.Order.{Before, AtMost, Later}
@@ -17,7 +17,3 @@ Either over others b = over b ⊎ others b
 -- the strings of the sets from one number on and below another
 abbrev pub Between : ℕ → ℕ → (ℕ → List ℕ → Type 0) → List ℕ → Type 0
 Between first end over b = (i : ℕ) × (first ≤ i) × (i < end) × over i b
-
--- the strings of the sets of both bits
-abbrev pub ByBit : (Bool → List ℕ → Type 0) → List ℕ → Type 0
-ByBit over b = (bit : Bool) × over bit b

@@ -27,6 +27,7 @@ mod example;
 pub mod laws;
 mod listing;
 mod nearest;
+mod numbered;
 mod operands;
 mod parts;
 mod rows;

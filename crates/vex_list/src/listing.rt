@@ -97,7 +97,8 @@ pub fn spelling_after(instruction: &Instruction, previous: &[u8]) -> Option<Spel
 /// byte string spells it.
 pub fn first_spelling(instruction: &Instruction) -> Option<Spelling>
     ensures spells { IfSome result (λ first. Spells first instruction.now.meaning) }
-    ensures least { IfSome result (λ first. (bytes : List ℕ) → Spells bytes instruction.now.meaning → UpTo first bytes) }
+    ensures least { IfSome result (λ first. (bytes : List ℕ) → Spells bytes instruction.now.meaning
+        → UpTo first bytes) }
     ensures none { IsNone result ↔ ((bytes : List ℕ) → Spells bytes instruction.now.meaning → ⊥) }
     // The list of all spellings is the answer and what comes after that.
     ensures listed { all_spellings instruction.now.meaning ≡ spellings_from instruction.now.meaning result }

@@ -1,10 +1,10 @@
 //! The nearest spelling of an instruction by the rows of an entry.
 
-ghost use Rattle.std.specs.Prelude.{◌≡◌, ◌<◌, ◌↔◌, IsTrue};
+ghost use Rattle.std.specs.Prelude.{◌≡◌, ◌<◌, ◌↔◌, IsTrue, if◌then◌else◌};
 ghost use Rattle.vex_rows.specs.Row.{Among, has_groups};
 ghost use Rattle.vex_rows.specs.Table.{table};
 ghost use Rattle.vex_list.specs.Next.{Covers};
-ghost use Rattle.vex_list.specs.Sets.{ByChosen, ByEntry, ByGroup, ByL, ByMemory};
+ghost use Rattle.vex_list.specs.Sets.{ByChosen, ByEntry};
 
 use crate::parts::parts_of;
 use crate::search::by_row;
@@ -53,71 +53,20 @@ fn by_choice(
     }
 }
 
-/// Whether a form has groups.
+/// How many choices there are of the rows of a form: eight for each reg field that may be a group, where there are
+/// groups.
 #[tactic(auto, unfolding(vex_rows::specs::Row::has_groups, vex_rows::specs::Steps::steps))]
-fn has_groups(form: Form) -> bool
-    ensures { result ≡ has_groups form }
+fn row_choices(form: Form) -> u8
+    ensures { result ≡ (if has_groups form then 64 else 8) }
 {
-    row_of_form(form).has_groups()
-}
-
-/// Over the reg fields that may be groups, where the form has them.
-fn by_group(
-    entry: &Entry,
-    w: bool,
-    l: bool,
-    memory: bool,
-    instruction: &Instruction,
-    previous: &[u8],
-    nearest: Option<Spelling>,
-) -> Option<Spelling>
-    requires { Among entry.now table }
-    ensures { Covers instruction.now.meaning previous.now
-        (ByGroup instruction.now.meaning entry.now w l memory) nearest result }
-{
-    if !has_groups(entry.form) {
-        return by_choice(entry, w, l, memory, 0, instruction, previous, nearest);
+    if row_of_form(form).has_groups() {
+        64
+    } else {
+        8
     }
-    let mut nearest = nearest;
-    for group in 0..8 {
-        nearest = by_choice(entry, w, l, memory, group, instruction, previous, nearest);
-    }
-    nearest
 }
 
-/// Over registers and memory.
-fn by_memory(
-    entry: &Entry,
-    w: bool,
-    l: bool,
-    instruction: &Instruction,
-    previous: &[u8],
-    nearest: Option<Spelling>,
-) -> Option<Spelling>
-    requires { Among entry.now table }
-    ensures { Covers instruction.now.meaning previous.now
-        (ByMemory instruction.now.meaning entry.now w l) nearest result }
-{
-    let nearest = by_group(entry, w, l, false, instruction, previous, nearest);
-    by_group(entry, w, l, true, instruction, previous, nearest)
-}
-
-/// Over L.
-fn by_l(
-    entry: &Entry,
-    w: bool,
-    instruction: &Instruction,
-    previous: &[u8],
-    nearest: Option<Spelling>,
-) -> Option<Spelling>
-    requires { Among entry.now table }
-    ensures { Covers instruction.now.meaning previous.now (ByL instruction.now.meaning entry.now w) nearest result }
-{
-    let nearest = by_memory(entry, w, false, instruction, previous, nearest);
-    by_memory(entry, w, true, instruction, previous, nearest)
-}
-
-/// Over the rows of an entry.
+/// Over the rows of an entry: both values of W and L, registers and memory, and the groups.
 pub fn by_entry(
     entry: &Entry,
     instruction: &Instruction,
@@ -127,6 +76,13 @@ pub fn by_entry(
     requires { Among entry.now table }
     ensures { Covers instruction.now.meaning previous.now (ByEntry instruction.now.meaning entry.now) nearest result }
 {
-    let nearest = by_l(entry, false, instruction, previous, nearest);
-    by_l(entry, true, instruction, previous, nearest)
+    let mut nearest = nearest;
+    for number in 0..row_choices(entry.form) {
+        let w = number / 4 % 2 == 1;
+        let l = number / 2 % 2 == 1;
+        let memory = number % 2 == 1;
+        let group = number / 8;
+        nearest = by_choice(entry, w, l, memory, group, instruction, previous, nearest);
+    }
+    nearest
 }

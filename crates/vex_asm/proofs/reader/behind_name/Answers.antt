@@ -10,7 +10,9 @@ use Rattle.vex_asm.proofs.Operands.{behind-no_word}
 use Rattle.vex_asm.proofs.reader.behind_name.Goals as goal
 
 length-front : (os : List Operand) (n : ℕ) → length os ≡ 4 → n ≤ 4 → length (map operand_meaning (take n os)) ≡ n
-length-front os n h k = let front : length (take n os) ≡ n = grind (arith, common_steps) in length-map (take n os) operand_meaning ∙ front
+length-front os n h k =
+    let front : length (take n os) ≡ n = grind (arith, common_steps) in
+    length-map (take n os) operand_meaning ∙ front
 
 front-more : (os : List Operand) (n : ℕ) (o : Operand) → n < length os
     → map operand_meaning (take (n + 1) (slice_set os n o)) ≡ map operand_meaning (take n os) ++ operand_meaning o ∷ []

@@ -1,4 +1,3 @@
-use Rattle.std.proofs.Common.{sym}
 use Rattle.vex_check.proofs.Covering.{covers-decided}
 use Rattle.vex_check.proofs.accept.accepts.Goals as goal
 

@@ -1,4 +1,4 @@
-use Rattle.std.proofs.Common.{◌≡◌, ◌≤◌, false, length, IsTrue, arith, refl, sym, ap, ◌∙◌, inl, inr, get_or}
+use Rattle.std.proofs.Common.{◌≡◌, false, length, arith, refl, sym, ◌∙◌, inl, inr}
 use Rattle.std.proofs.lemmas.Bool.{cases_lt}
 use Rattle.std.proofs.lemmas.List.{get_or_past}
 use Rattle.vex_check.proofs.Bits.{false-is-not-true}

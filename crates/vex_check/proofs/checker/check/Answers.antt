@@ -1,16 +1,15 @@
-use Rattle.std.proofs.Common.{◌≡◌, ◌+◌, ap, arith, refl, rules, subst, sym, ◌∙◌}
-use Rattle.std.proofs.lemmas.Grind.{common_steps}
+use Rattle.std.proofs.Common.{◌≡◌, ◌+◌, ap, arith, subst, sym, ◌∙◌}
 use Rattle.std.proofs.lemmas.List.{take_rest}
 use Rattle.x86_settings.specs.Bits.{is_set}
 use Rattle.x86_settings.specs.Sets.{exactly}
 use Rattle.x86_permit.specs.LeastSettings.{least}
 use Rattle.vex_encode.specs.Sweep.Lemmas.{are_bytes}
-use Rattle.vex_check.specs.Accepted.{EndsWhereCovered, StopsAtLack, StopsAtLeastLack}
+use Rattle.vex_check.specs.Accepted.{EndsWhereCovered, StopsAtLeastLack}
 use Rattle.vex_check.specs.Needs.{all_needed, firsts, run}
-use Rattle.vex_check.specs.FirstPlaces.{all_there, bits_there, noted}
+use Rattle.vex_check.specs.FirstPlaces.{noted}
 use Rattle.vex_check.proofs.Checking.{Checking, checking-count, checking-fault, checking-first, checking-firsts}
 use Rattle.vex_check.proofs.Checking.{checking-least, checking-none, checking-step}
-use Rattle.vex_check.proofs.Noting.{first_places, none-first}
+use Rattle.vex_check.proofs.Noting.{none-first}
 use Rattle.vex_check.proofs.checker.check.Goals as goal
 
 pub loop-place-init : goal.loop-place-init

@@ -1,4 +1,4 @@
-use Rattle.std.proofs.Common.{◌≡◌, Some, Err, Ok, ap, arith, refl, subst, sym, ◌∙◌}
+use Rattle.std.proofs.Common.{◌≡◌, Err, Ok, ap, arith, refl, subst}
 use Rattle.x86_settings.specs.Bits.{all_bits}
 use Rattle.vex_encode.specs.Sweep.{first_of_bytes}
 use Rattle.vex_encode.specs.Sweep.Lemmas.{are_bytes, first-blocked, first-spelled}

@@ -1,16 +1,24 @@
--- An address has each width; all else has its one form.
-use Rattle.std.proofs.Common.{subst}
-use Rattle.vex_forms.specs.Operands.{target_seen}
-use Rattle.vex_list.specs.Choices.{FormFits}
-use Rattle.vex_list.proofs.Lists.{cover_either, cover_fewer}
-use Rattle.vex_list.proofs.Sets.{by_widths}
+-- One more form, and all of them.
+use Rattle.std.proofs.Common.{arith, subst}
+use Rattle.vex_list.specs.Next.{Covers}
+use Rattle.vex_list.specs.Sets.{ByLow, with_address}
+use Rattle.vex_list.proofs.Lists.{cover_none, cover_more, cover_to, cover_fewer}
+use Rattle.vex_list.proofs.Sets.{by_forms}
 use Rattle.vex_list.proofs.search.by_address.Goals as goal
 
-pub returns-in-Memory : goal.returns-in-Memory
-returns-in-Memory c = λ row is.
+pub loop-number-init : goal.loop-number-init
+loop-number-init c = λ row is. cover_none c.args.instruction.now.meaning c.args.previous.now 0 _ c.args.nearest
+
+pub loop-number-preserved : goal.loop-number-preserved
+loop-number-preserved c = λ row is.
     let m = c.args.instruction.now.meaning in
-    let previous = c.args.previous.now in
-    cover_fewer m previous _ _ _ _ (λ b. by_widths row m c.args.parts.now c.args.choices b
-    (λ form fits. subst (λ e. FormFits (target_seen e) form) c.in-Memory.is fits))
-    (cover_either m previous _ _ _ _ _ (cover_either m previous _ _ _ _ _ (c.by_width-nearest.ensures row is)
-    (c.by_width-nearest-in-Memory.ensures row is)) (c.by_width.ensures row is))
+    cover_more m c.args.previous.now 0 c.loop-number.number _ _ _ _ (c.loop-number.invariant row is)
+    (subst (λ form. Covers m c.args.previous.now
+    (ByLow row m c.args.parts.now (with_address c.args.choices form)) c.loop-number.nearest c.by_low-nearest.result)
+    c.address_form-address.ensures.value (c.by_low-nearest.ensures row is))
+
+pub returns : goal.returns
+returns c = λ row is.
+    let m = c.args.instruction.now.meaning in
+    cover_fewer m c.args.previous.now _ _ _ _ (λ b. by_forms row m c.args.parts.now c.args.choices b)
+    (cover_to m c.args.previous.now 0 _ _ _ _ _ (omega arith) (c.loop-number.invariant row is))

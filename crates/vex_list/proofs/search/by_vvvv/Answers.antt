@@ -1,17 +1,19 @@
--- The fixed value, or all.
-use Rattle.vex_list.specs.Sets.{ByAddress, with_vvvv}
-use Rattle.vex_list.proofs.Lists.{cover_fewer}
-use Rattle.vex_list.proofs.Sets.{at_fixed}
+-- One more value, and all of them.
+use Rattle.std.proofs.Common.{arith}
+use Rattle.vex_list.proofs.Lists.{cover_none, cover_more, cover_to, cover_fewer}
+use Rattle.vex_list.proofs.Sets.{by_inverted}
 use Rattle.vex_list.proofs.search.by_vvvv.Goals as goal
 
-pub returns-in-Some : goal.returns-in-Some
-returns-in-Some c = λ row is.
+pub loop-inverted-init : goal.loop-inverted-init
+loop-inverted-init c = λ row is. cover_none c.args.instruction.now.meaning c.args.previous.now _ _ c.args.nearest
+
+pub loop-inverted-preserved : goal.loop-inverted-preserved
+loop-inverted-preserved c = λ row is. cover_more c.args.instruction.now.meaning c.args.previous.now _
+    c.loop-inverted.inverted _ _ _ _ (c.loop-inverted.invariant row is) (c.by_address-nearest.ensures row is)
+
+pub returns : goal.returns
+returns c = λ row is.
     let m = c.args.instruction.now.meaning in
     cover_fewer m c.args.previous.now _ _ _ _
-    (λ s t. at_fixed (λ v. ByAddress row m c.args.parts.now (with_vvvv c.args.choices v) s) c.args.parts.now.vvvv _
-    c.in-Some.is (t.0, t.2, t.3)) (c.by_address.ensures row is)
-
-pub returns-in-None : goal.returns-in-None
-returns-in-None c = λ row is.
-    cover_fewer c.args.instruction.now.meaning c.args.previous.now _ _ _ _ (λ s t. (t.0, t.1, t.3))
-    (c.by_free_vvvv.ensures row is)
+    (λ b. by_inverted row m c.args.parts.now c.args.choices _ _ c.inverted_vvvv-first.ensures.all b)
+    (cover_to m c.args.previous.now _ _ _ _ _ _ (omega arith) (c.loop-inverted.invariant row is))
