@@ -1,12 +1,10 @@
 -- The names of the profiles that have every bit, one after another.
-use Rattle.std.proofs.Common.{◌≡◌, ℕ, ◌+◌, ◌*◌, ◌<◌, ◌≤◌, Bool, true, false, Bor, List, [], ◌∷◌, ◌++◌, length, get_or}
-use Rattle.std.proofs.Common.{take, ap, sym, ◌∙◌, refl, arith, append_assoc, nat_eq, nat_le, zero, suc, Some, None}
-use Rattle.std.specs.Prelude.{All, ◌&&◌, codes, flat_map, map, if◌then◌else◌}
-use Rattle.std.proofs.lemmas.Bool.{and_parts}
+use Rattle.std.proofs.Common.{◌≡◌, ℕ, ◌+◌, ◌<◌, ◌≤◌, Bool, true, false, Bor, List, [], ◌∷◌, ◌++◌, length, get_or}
+use Rattle.std.proofs.Common.{take, drop, ap, sym, ◌∙◌, refl, arith, append_assoc, nat_eq, zero, suc, Some, None}
+use Rattle.std.specs.Prelude.{codes, flat_map, map, if◌then◌else◌}
 use Rattle.std.proofs.lemmas.Bool.Decides.{nat_tests}
 use Rattle.std.proofs.Math.Seq.{take-length}
-use Rattle.std.proofs.lemmas.List.{append-nil, get_or_default, take_more}
-use Rattle.std.proofs.lemmas.List.Elements.{All-cons, All-get_or, All-nil}
+use Rattle.std.proofs.lemmas.List.{append-nil, drop_more, get_or_default, take_more}
 use Rattle.std.proofs.lemmas.Grind.{flat_map-append}
 use Rattle.x86_uarch.specs.Profiles.{microarchitectures, profiles}
 use Rattle.vex_check.specs.declared.needs.First.{First}
@@ -30,25 +28,16 @@ seen_words : (wanted : List Bool) (names : List (Bor (List ℕ)))
 seen_words wanted [] = refl
 seen_words wanted (name ∷ names) = ap (λ t. profile_word wanted name.now ++ t) (seen_words wanted names)
 
--- ---- names are short
+-- ---- the names fit a line
 
-are_short : List (List ℕ) → Bool
-are_short [] = true
-are_short (name ∷ names) = nat_le (length name) 11 && are_short names
+-- how long names are with a space before each
+pub widths : List (List ℕ) → ℕ
+widths [] = 0
+widths (name ∷ names) = suc (length name) + widths names
 
-short_name : (n : ℕ) → nat_le n 11 ≡ true → n ≤ 11
-short_name n h = grind (arith, nat_tests)
-
-all-short : (names : List (List ℕ)) → are_short names ≡ true → All (λ (name : List ℕ). length name ≤ 11) names
-unfolding are_short
-all-short [] h = All-nil (λ (name : List ℕ). length name ≤ 11)
-all-short (name ∷ names) h =
-    let parts = and_parts _ _ h in All-cons (λ (n : List ℕ). length n ≤ 11) name names
-    (short_name (length name) parts.0) (all-short names parts.1)
-
-architectures-short : are_short microarchitectures ≡ true
-unfolding are_short microarchitectures profiles
-architectures-short = refl
+architectures-width : widths microarchitectures ≡ 180
+unfolding widths microarchitectures profiles
+architectures-width = refl
 
 architectures-count : length microarchitectures ≡ 23
 unfolding microarchitectures profiles
@@ -70,21 +59,36 @@ same-count (name ∷ names) = ap suc (same-count names)
 count-names : (names : List (Bor (List ℕ))) → AreNames names → length names ≡ 23
 count-names names are = sym (same-count names) ∙ ap length are ∙ architectures-count
 
-pub name-short : (names : List (Bor (List ℕ))) (i : ℕ) (d : Bor (List ℕ)) → AreNames names → i < length names
-    → length (get_or names i d).now ≤ 11
-name-short names i d are below =
-    let at = at-map (λ (name : Bor (List ℕ)). name.now) names i d ∙ ap (λ ns. get_or ns i d.now) are in
+-- a name of the code's is one of the definition's
+same-name : (names : List (Bor (List ℕ))) (i : ℕ) (d : Bor (List ℕ)) → AreNames names
+    → (get_or names i d).now ≡ get_or microarchitectures i d.now
+same-name names i d are =
+    at-map (λ (name : Bor (List ℕ)). name.now) names i d ∙ ap (λ ns. get_or ns i d.now) are
+
+-- the room of a name and of those after it
+width-step : (names : List (Bor (List ℕ))) (i : ℕ) (d : Bor (List ℕ)) → AreNames names → i < length names
+    → widths (drop i microarchitectures)
+    ≡ suc (length (get_or names i d).now) + widths (drop (i + 1) microarchitectures)
+unfolding widths
+width-step names i d are below =
     let within : i < length microarchitectures = omega (arith, below, count-names names are, architectures-count) in
-    let short = All-get_or (λ (name : List ℕ). length name ≤ 11) microarchitectures i d.now within
-    (all-short microarchitectures architectures-short) in
-    omega (arith, ap length at, short)
+    ap widths (drop_more microarchitectures i d.now within)
+    ∙ ap (λ (name : List ℕ). suc (length name) + widths (drop (i + 1) microarchitectures))
+    (sym (same-name names i d are))
 
 -- ---- the line
 
--- the text so far: the words of the names so far behind the first word
+-- the text so far: the words of the names so far behind the first word, with room for all others
 pub record Gathered (wanted : List Bool) (names : List (Bor (List ℕ))) (i : ℕ) (text : List ℕ) : Type 0 where
   pub text_is : text ≡ codes "profiles" ++ flat_map (seen_word wanted) (take i names)
-  pub short : length text ≤ 8 + 12 * i
+  pub short : length text + widths (drop i microarchitectures) ≤ 188
+
+pub gathered-none : (wanted : List Bool) (names : List (Bor (List ℕ))) (text : List ℕ) → text ≡ codes "profiles"
+    → Gathered wanted names 0 text
+gathered-none wanted names text is = record {
+  text_is = is;
+  short = omega (arith, ap length is, architectures-width);
+}
 
 pub gathered-step : (wanted : List Bool) (names : List (Bor (List ℕ))) (i : ℕ) (d : Bor (List ℕ)) (text new : List ℕ)
     → AreNames names
@@ -101,7 +105,7 @@ gathered-step wanted names i d text new are below so_far is longer = record {
       (sym (append-nil (profile_word wanted (get_or names i d).now)))
       ∙ sym (flat_map-append (seen_word wanted) (take i names) (get_or names i d ∷ []))
       ∙ ap (flat_map (seen_word wanted)) (sym (take_more names i d below)));
-  short = omega (arith, so_far.short, longer, name-short names i d are below);
+  short = omega (arith, so_far.short, longer, width-step names i d are below);
 }
 
 -- no word, and a dash for it
@@ -131,16 +135,15 @@ gathered-line wanted names text are gathered =
       take-all xs = take-length xs
 
 -- how long the text is at most
-pub gathered-room : (wanted : List Bool) (names : List (Bor (List ℕ))) (i : ℕ) (text : List ℕ) → AreNames names
-    → i ≤ length names
-    → Gathered wanted names i text → length text ≤ 284
-gathered-room wanted names i text are within gathered = omega (arith, gathered.short, within, count-names names are)
+pub gathered-room : (wanted : List Bool) (names : List (Bor (List ℕ))) (i : ℕ) (text : List ℕ)
+    → Gathered wanted names i text → length text ≤ 188
+gathered-room wanted names i text gathered = omega (arith, gathered.short)
 
 pub before-room : (wanted : List Bool) (names : List (Bor (List ℕ))) (i : ℕ) (d : Bor (List ℕ)) (text : List ℕ)
     → AreNames names → i < length names
-    → Gathered wanted names i text → length text + 1 + length (get_or names i d).now ≤ 320
+    → Gathered wanted names i text → length text + 1 + length (get_or names i d).now ≤ 256
 before-room wanted names i d text are below gathered =
-    omega (arith, gathered.short, below, count-names names are, name-short names i d are below)
+    omega (arith, gathered.short, width-step names i d are below)
 
 -- ---- all lines
 

@@ -1,4 +1,5 @@
 pub mod EndsLemmas
+pub mod HexDigitsLemmas
 pub mod ReportLemmas
 pub mod LineMachineLemmas
 pub mod FeedLemmas

@@ -149,6 +149,9 @@ unfolding appended
 appended_none [] = refl
 appended_none (b ∷ bs) = ap (λ k. appended k bs) (pushed-none b) ∙ appended_none bs
 
+-- bytes after an unfinished line, whether there is room for them or not
+pub ruleset appending = (appended_short, appended_long, appended_none)
+
 -- ---- bytes that end no line
 
 pub NoEnd : List ℕ → Type 0

@@ -1,13 +1,13 @@
 -- What is written for a line, by what decoding its digits answered.
-use Rattle.std.proofs.Common.{◌≡◌, ℕ, suc, ◌/◌, ◌<◌, ◌≤◌, Bool, true, false, not, cond, ltb, List, [], ◌∷◌, ◌++◌}
-use Rattle.std.proofs.Common.{get_or, Option, None, Some, length, take, Result, Ok, Err, ap, ◌∙◌, sym, refl, arith}
-use Rattle.std.specs.Prelude.{MatchResult, is_some}
-use Rattle.std.proofs.lemmas.Bool.{false_from_ne_true}
+use Rattle.std.proofs.Common.{◌≡◌, ℕ, ◌<◌, ◌≤◌, Bool, true, false, not, cond, ltb, List, [], ◌∷◌, length}
+use Rattle.std.proofs.Common.{Result, Ok, Err, ap, ◌∙◌, sym, refl, arith}
+use Rattle.std.specs.List.{AllPass}
+use Rattle.std.specs.Prelude.{IsErr}
 use Rattle.std.proofs.lemmas.Bool.Decides.{nat_tests}
-use Rattle.memchr.specs.Find.{IsFirstByte, is_byte3}
-use Rattle.std.proofs.lemmas.List.{take_at}
-use Rattle.hex.specs.Hex.{decode_of, decode_sized}
+use Rattle.std.proofs.lemmas.List.Elements.{All-head, All-tail}
+use Rattle.hex.specs.Hex.{decode_of, is_hex_digit}
 use Rattle.hex.specs.declared.error.FromHexError.{FromHexError}
+use Rattle.hex.proofs.HexLemmas.{decode_of-ok}
 use Rattle.vex_tool.specs.declared.command.Command.{Command}
 use Rattle.vex_tool.specs.declared.command.Command.TheVariants.{Recode, Sweep, Notes, Asm, Emulate, Spellings, Least}
 use Rattle.vex_tool.specs.declared.command.Command.TheVariants.{Make}
@@ -15,72 +15,41 @@ use Rattle.vex_tool.specs.declared.report.LineError.TheVariants.{BadHex, LongLin
 use Rattle.vex_tool.specs.Report.{report, code, code_report, digits, is_blank, or_bad_hex, taken}
 use Rattle.vex_tool.proofs.LineMachineLemmas.{SameForLong}
 
--- room for half as many bytes as there are digits is as good as any
-decode_sized-half : (text : List ℕ) → decode_sized text (length text / 2) ≡ decode_of text
-decode_sized-half text = grind (arith, nat_tests)
-
 -- a line that isn't too long writes what its digits do
-pub code-short : (line text : List ℕ) → length line ≤ 8192 → text ≡ digits line
+code-short : (line text : List ℕ) → length line ≤ 8192 → text ≡ digits line
     → code line ≡ or_bad_hex (decode_of text)
 unfolding code
 code-short line text short is = rw is (grind (arith, nat_tests))
 
--- a line without blanks is its digits
-digits-inside : (line : List ℕ) → ((i : ℕ) → i < length line → ¬ (is_blank (get_or line i 0) ≡ true))
-    → digits line ≡ line
-digits-inside [] none = refl
-digits-inside (b ∷ bs) none =
-    let inside : is_blank b ≡ false = false_from_ne_true (is_blank b) (none 0 (omega arith)) in
-    ap (λ (t : Bool). cond (not t) (b ∷ digits bs) (digits bs)) inside
-    ∙ ap (λ rest. b ∷ rest) (digits-inside bs (λ i below. none (suc i) (omega arith)))
+digit_is_kept : (b : ℕ) → is_hex_digit b ≡ true → is_blank b ≡ false
+digit_is_kept b h = grind (arith, nat_tests)
 
--- where a search finds no blank
-pub digits-whole : (line : List ℕ) (found : Option ℕ) → IsFirstByte (is_byte3 32 9 13) line found
-    → is_some found ≡ false → line ≡ digits line
-digits-whole line None nowhere none = sym (digits-inside line (λ i below. nowhere i (omega arith) below))
-digits-whole line (Some k) found none = cc
+-- digits have no blank among them
+digits-whole : (line : List ℕ) → AllPass is_hex_digit line → line ≡ digits line
+digits-whole [] are = refl
+digits-whole (b ∷ bs) are =
+    let kept : is_blank b ≡ false = digit_is_kept b (All-head (λ (c : ℕ). is_hex_digit c ≡ true) b bs are) in
+    ap (λ rest. b ∷ rest) (digits-whole bs (All-tail (λ (c : ℕ). is_hex_digit c ≡ true) b bs are))
+    ∙ sym (ap (λ (t : Bool). cond (not t) (b ∷ digits bs) (digits bs)) kept)
 
--- what decoding answered, and left in the room that it was given
-abbrev pub Decoded : Result (List ℕ) FromHexError → Result (Unit {0}) FromHexError → List ℕ → Type 0
-Decoded r answer out = MatchResult r (λ bytes. (answer ≡ Ok tt) × (out ≡ bytes)) (λ e. answer ≡ Err e)
+-- a line that is decoded as it is
+pub code-whole : (line bytes : List ℕ) → length line ≤ 8192 → decode_of line ≡ Ok bytes → code line ≡ Ok bytes
+code-whole line bytes short is =
+    code-short line line short (digits-whole line (decode_of-ok line bytes is).1) ∙ ap or_bad_hex is
 
-decoded_ok : (r : Result (List ℕ) FromHexError) (answer : Result (Unit {0}) FromHexError) (out : List ℕ) (x : Unit {0})
-    → Decoded r answer out → answer ≡ Ok x → or_bad_hex r ≡ Ok out
-decoded_ok (Ok bytes) answer out x h e = ap Ok (sym h.1)
-decoded_ok (Err d) answer out x h e = cc
+-- a line whose digits are decoded
+pub code-decoded : (line text bytes : List ℕ) → length line ≤ 8192 → text ≡ digits line → decode_of text ≡ Ok bytes
+    → code line ≡ Ok bytes
+code-decoded line text bytes short are is = code-short line text short are ∙ ap or_bad_hex is
 
-decoded_err : (r : Result (List ℕ) FromHexError) (answer : Result (Unit {0}) FromHexError) (out : List ℕ)
-    (d : FromHexError)
-    → Decoded r answer out → answer ≡ Err d → or_bad_hex r ≡ Err BadHex
-decoded_err (Ok bytes) answer out d h e = let both = h.0 in cc
-decoded_err (Err x) answer out d h e = refl
+bad_hex : (r : Result (List ℕ) FromHexError) → IsErr r → or_bad_hex r ≡ Err BadHex
+bad_hex (Ok bytes) is = cc is
+bad_hex (Err e) is = refl
 
--- digits were decoded into room for half as many bytes
-pub record IsDecoded (text room out : List ℕ) (answer : Result (Unit {0}) FromHexError) : Type 0 where
-  pub half : length room ≡ length text / 2
-  pub same_len : length out ≡ length room
-  pub decoded : Decoded (decode_sized text (length room)) answer out
-
-from_decoded : (text room out : List ℕ) (answer : Result (Unit {0}) FromHexError) → IsDecoded text room out answer
-    → or_bad_hex (decode_of text) ≡ or_bad_hex (decode_sized text (length room))
-from_decoded text room out answer h =
-    ap or_bad_hex (sym (decode_sized-half text)) ∙ ap (λ n. or_bad_hex (decode_sized text n)) (sym h.half)
-
--- digits that write bytes
-pub bytes-decoded : (text room out rest : List ℕ) (answer : Result (Unit {0}) FromHexError) (x : Unit {0})
-    → IsDecoded text room out answer
-    → answer ≡ Ok x → or_bad_hex (decode_of text) ≡ Ok (take (length text / 2) (out ++ rest))
-bytes-decoded text room out rest answer x h e =
-    from_decoded text room out answer h
-    ∙ decoded_ok (decode_sized text (length room)) answer out x h.decoded e
-    ∙ ap Ok (sym (take_at out rest (length text / 2) (h.same_len ∙ h.half)))
-
--- digits that write none
-pub bytes-refused : (text room out : List ℕ) (answer : Result (Unit {0}) FromHexError) (d : FromHexError)
-    → IsDecoded text room out answer
-    → answer ≡ Err d → or_bad_hex (decode_of text) ≡ Err BadHex
-bytes-refused text room out answer d h e =
-    from_decoded text room out answer h ∙ decoded_err (decode_sized text (length room)) answer out d h.decoded e
+-- a line whose digits are refused
+pub code-refused : (line text : List ℕ) → length line ≤ 8192 → text ≡ digits line → IsErr (decode_of text)
+    → code line ≡ Err BadHex
+code-refused line text short are is = code-short line text short are ∙ bad_hex (decode_of text) is
 
 -- nothing is taken of a line that is too long
 code-long : (line : List ℕ) → 8192 < length line → code line ≡ Err LongLine

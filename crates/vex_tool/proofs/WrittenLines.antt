@@ -30,7 +30,10 @@ pub found-item : {A : Type 0} (items : List A) (i : ℕ) (item : A) → slice_ge
     → (i < length items) × (item ≡ get_or items i item)
 found-item [] i item is = cc
 found-item (x ∷ items) zero item is = let same : x ≡ item = cc in (omega arith, sym same)
-found-item (x ∷ items) (suc i) item is = let later : slice_get items i ≡ Some item = cc in let found = found-item items i item later in (omega (arith, found.0), found.1)
+found-item (x ∷ items) (suc i) item is =
+    let later : slice_get items i ≡ Some item = cc in
+    let found = found-item items i item later in
+    (omega (arith, found.0), found.1)
 
 -- the lines of these elements were written
 pub record Wrote {A : Type 0} (line : A → List ℕ) (items : List A) (first now : Told) : Type 0 where

@@ -9,13 +9,9 @@ ghost use Rattle.x86_uarch.specs.Profiles.{profile_of};
 
 use crate::ends::{Failed, Sink};
 use crate::line_text::LineText;
-use arrayvec::ArrayString;
-use vex_asm::{append_name, append_number};
+use vex_asm::{MAX_TEXT, append_name, append_number};
 use vex_check::{First, Needs, RunCause, RunFault, accepts, check};
 use x86_uarch::{names, profile};
-
-/// Room for the line of all profiles: 23 names of at most 11 bytes, a space before each, and what stands round them.
-const MAX_PROFILES: usize = 320;
 
 /// The name of a bit, of the five that instructions in VEX form need.
 fn bit_name(bit: u8) -> &'static str
@@ -79,8 +75,8 @@ fn is_accepting(name: &str, needs: &Needs) -> bool
 }
 
 /// Appends the name of a profile behind a space, where the profile has every bit that a run needs.
-fn push_accepting(text: &mut ArrayString<MAX_PROFILES>, name: &str, needs: &Needs)
-    requires { array_string_len text.old + 1 + length name.now ≤ MAX_PROFILES }
+fn push_accepting(text: &mut LineText, name: &str, needs: &Needs)
+    requires { array_string_len text.old + 1 + length name.now ≤ MAX_TEXT }
     ensures written { text.new.bytes ≡ text.old.bytes ++ profile_word needs.now.least name.now }
     ensures short { array_string_len text.new ≤ array_string_len text.old + 1 + length name.now }
 {
@@ -91,8 +87,8 @@ fn push_accepting(text: &mut ArrayString<MAX_PROFILES>, name: &str, needs: &Need
 }
 
 /// Appends a dash, where nothing stands behind the first word of the line of profiles.
-fn push_dash(text: &mut ArrayString<MAX_PROFILES>)
-    requires { array_string_len text.old + 2 ≤ MAX_PROFILES }
+fn push_dash(text: &mut LineText)
+    requires { array_string_len text.old + 2 ≤ MAX_TEXT }
     ensures written { text.new.bytes ≡ text.old.bytes ++ (if nat_eq (length text.old.bytes) 8 then codes " -" else []) }
     ensures short { array_string_len text.new ≤ array_string_len text.old + 2 }
 {
@@ -101,18 +97,19 @@ fn push_dash(text: &mut ArrayString<MAX_PROFILES>)
     }
 }
 
-/// Writes the line of the profiles that have every bit that a run needs, in one write.
-fn write_profiles<K: Sink>(needs: &Needs, sink: &mut K) -> Result<(), Failed>
+/// Writes the line of the profiles that have every bit that a run needs, in one write. With all 23 names, and a space
+/// before each, it has 189 bytes.
+fn write_profiles<K: Sink>(needs: &Needs, text: &mut LineText, sink: &mut K) -> Result<(), Failed>
     ensures { Writes result (K.text sink.old) (K.text sink.new) (K.faults sink.old) (K.faults sink.new)
         (profiles_line needs.now.least) }
 {
-    let mut text = ArrayString::<MAX_PROFILES>::new();
+    text.clear();
     text.push_str("profiles");
     let list = names();
     for name in list {
-        push_accepting(&mut text, name, needs);
+        push_accepting(text, name, needs);
     }
-    push_dash(&mut text);
+    push_dash(text);
     text.push_str("\n");
     sink.write_all(text.as_str().as_bytes())
 }
@@ -138,7 +135,7 @@ pub fn write_least<K: Sink>(bytes: &[u8], text: &mut LineText, sink: &mut K) -> 
     match check(bytes) {
         Ok(needs) => {
             write_firsts(needs.firsts.as_slice(), text, sink)?;
-            write_profiles(&needs, sink)
+            write_profiles(&needs, text, sink)
         }
         Err(fault) => {
             fault_text(text, &fault);

@@ -45,7 +45,7 @@ impl LineBuffer {
     }
 
     /// Appends bytes. From byte 8,193 on the line is too long, and `line` answers `None`.
-    #[tactic(auto, using(crate::proofs::LineMachineLemmas::appended_short, crate::proofs::LineMachineLemmas::appended_long, crate::proofs::LineMachineLemmas::appended_none))]
+    #[tactic(auto, using(crate::proofs::LineMachineLemmas::appending))]
     pub fn append(&mut self, bytes: &[u8])
         ensures { self.new ≡ appended self.old bytes.now }
     {

@@ -186,7 +186,7 @@ static MACHINES: [(&str, &[u8], &[u8]); 17] = [
     ("default", b"c5f", b"error BadHex\n"),
 ];
 
-// Runs a command under a profile over a line, and wants this text.
+/// Runs a command under a profile over a line, and wants this text.
 pub fn check(rt: &impl Abort, alloc: Global, verb: &str, profile: &str, line: &[u8], text: &[u8]) {
     let mut words = Words::new();
     words.push(verb);

@@ -143,7 +143,13 @@ impl<'a> MemSink<'a> {
     /// A sink that writes into `room`, and whose writes with the numbers in `failing`, counted from
     /// 0, fail.
     pub fn new(room: &'a mut [u8], failing: &'a [u64]) -> MemSink<'a>
-        ensures { result ≡ record { written = []; room = length room.old; failing = failing.now; call = 0; faults = 0 } }
+        ensures { result ≡ record {
+          written = [];
+          room = length room.old;
+          failing = failing.now;
+          call = 0;
+          faults = 0;
+        } }
     {
         MemSink {
             room,

@@ -1,10 +1,9 @@
 //! What is written for a line.
 
-ghost use Rattle.std.specs.Prelude.{◌≡◌, ◌≤◌, ◌/◌, [], length, take, Ok, Err, IfOk, IsTrue, MatchResult};
-ghost use Rattle.hex.specs.Hex.{decode_of};
+ghost use Rattle.std.specs.Prelude.{◌≡◌, ◌≤◌, [], length, take, Ok, Err, IfOk, IsTrue, MatchResult};
 ghost use Rattle.vex_tool.specs.Ends.{Answers, Writes};
 ghost use Rattle.vex_tool.specs.ErrorLine.{error_line};
-ghost use Rattle.vex_tool.specs.Report.{report, code, code_report, taken, digits, or_bad_hex, is_blank};
+ghost use Rattle.vex_tool.specs.Report.{report, code, code_report, taken, digits, is_blank};
 ghost use Rattle.vex_tool.specs.Report.{line_error_name, takes_memory, MayLackMemory};
 
 use crate::asm_line::write_asm_line;
@@ -12,6 +11,7 @@ use crate::command::Command;
 use crate::emulate_lines::{LineMachine, MEMORY, write_emulated};
 use crate::ends::{Failed, Sink};
 use crate::halt::Halt;
+use crate::hex_digits::decode_digits;
 use crate::least_lines::write_least;
 use crate::line_text::{LineText, error_text};
 use crate::note_lines::write_notes;
@@ -19,7 +19,6 @@ use crate::result_line::write_result_line;
 use crate::spelling_lines::write_spellings;
 use crate::sweep_lines::write_sweep;
 use arrayvec::ArrayVec;
-use memchr::memchr3;
 use std::alloc::Global;
 
 /// How many bytes a line has, at most.
@@ -68,20 +67,6 @@ fn keep_digits(line: &[u8], kept: &mut ArrayVec<u8, MAX_LINE>)
     }
 }
 
-// Decodes hex digits to the first places of `bytes`, and answers how many.
-fn decode_digits(text: &[u8], bytes: &mut [u8]) -> Result<usize, LineError>
-    requires { length text.now / 2 ≤ length bytes.now }
-    ensures within { IfOk result (λ n. n ≤ length bytes.new) }
-    ensures decoded { MatchResult result (λ n. or_bad_hex (decode_of text.now) ≡ Ok (take n bytes.new))
-        (λ e. or_bad_hex (decode_of text.now) ≡ Err e) }
-{
-    let n = text.len() / 2;
-    match hex::decode_to_slice(text, &mut bytes[..n]) {
-        Ok(()) => Ok(n),
-        Err(_) => Err(LineError::BadHex),
-    }
-}
-
 /// Room for the digits of a line, for the bytes that they write and for the text of a line of the output, and a machine
 /// that runs the bytes. It is made once and lent to each line: to make it anew, by value, would take longer than all
 /// else that a line needs.
@@ -111,12 +96,15 @@ impl<'a> LineRoom<'a> {
         ensures decoded { MatchResult result (λ n. code line.now ≡ Ok (take n self.new.bytes))
             (λ e. code line.now ≡ Err e) }
     {
-        if memchr3(b' ', b'\t', b'\r', line).is_none() {
+        if let Some(n) = decode_digits(line, &mut self.bytes) {
             // Without blanks the digits are decoded where they lie.
-            return decode_digits(line, &mut self.bytes);
+            return Ok(n);
         }
         keep_digits(line, &mut self.digits);
-        decode_digits(self.digits.as_slice(), &mut self.bytes)
+        match decode_digits(self.digits.as_slice(), &mut self.bytes) {
+            Some(n) => Ok(n),
+            None => Err(LineError::BadHex),
+        }
     }
 }
 

@@ -1,8 +1,12 @@
 use Rattle.std.proofs.Common.{◌≡◌, ◌∙◌, ◌++◌, ap, arith, length, subst}
 use Rattle.std.specs.Prelude.{codes}
 use Rattle.vex_tool.specs.LeastLines.{profiles_line}
-use Rattle.vex_tool.proofs.LeastLinesLemmas.{Gathered, before-room, gathered-line, gathered-room, gathered-step}
+use Rattle.vex_tool.proofs.LeastLinesLemmas.{Gathered, before-room, gathered-line, gathered-none, gathered-room}
+use Rattle.vex_tool.proofs.LeastLinesLemmas.{gathered-step}
 use Rattle.vex_tool.proofs.least_lines.write_profiles.Goals as goal
+
+pub loop-name-init : goal.loop-name-init
+loop-name-init g c = gathered-none _ _ _ (c.push_str.ensures.bytes ∙ ap (λ t. t ++ codes "profiles") c.clear.ensures)
 
 pub push_accepting-requires : goal.push_accepting-requires
 push_accepting-requires g c =
@@ -20,16 +24,14 @@ pub push_dash-requires : goal.push_dash-requires
 push_dash-requires g c =
     let room =
     gathered-room c.args.needs.now.least c.names-list.result.now c.loop-name.name-index c.loop-name.text.bytes
-    c.names-list.ensures
-    c.loop-name.auto.name-index-end c.loop-name.invariant in
+    c.loop-name.invariant in
     omega (arith, room)
 
 pub push_str-requires-2 : goal.push_str-requires-2
 push_str-requires-2 g c =
     let room =
     gathered-room c.args.needs.now.least c.names-list.result.now c.loop-name.name-index c.loop-name.text.bytes
-    c.names-list.ensures
-    c.loop-name.auto.name-index-end c.loop-name.invariant in
+    c.loop-name.invariant in
     (omega arith, omega (arith, room, c.push_dash.ensures.short))
 
 pub returns : goal.returns
