@@ -1,6 +1,5 @@
 pub mod Standard
 pub mod Canon
-pub mod Kind
 pub mod Assembly
 pub mod Encode
 pub mod Recode

@@ -14,13 +14,12 @@ ghost use Rattle.vex_forms.specs.Operands.{BanksFit, NumberFits};
 ghost use Rattle.vex_forms.specs.Slots.{slots};
 ghost use Rattle.vex_encode.specs.Assembly.{AsksFor, CanBePlaced, HasNumbers, GeneralAddress, IsAddress, IsAddressOf};
 ghost use Rattle.vex_encode.specs.Assembly.{IsAsked, IsPlaced};
-ghost use Rattle.vex_encode.specs.Kind.{kind_seen};
+ghost use Rattle.vex_forms.specs.Reads.{kind_seen};
 ghost use Rattle.vex_encode.specs.Standard.{target_of};
 ghost use Rattle.vex_encode.specs.Conditions.{AddressFits, SlotIndexFits};
 
-use crate::kind::Kind;
 use crate::operand_walk::{Asked, number_of};
-use vex_forms::{OperandE, OperandFields};
+use vex_forms::{Kind, OperandE, OperandFields};
 use x86_operand::{Address, Index, Operand, RegSpec, RegisterBank};
 
 /// The address of an operand in memory.

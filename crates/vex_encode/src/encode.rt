@@ -16,12 +16,11 @@ ghost use Rattle.vex_decode.specs.Spelling.{bytes_of};
 ghost use Rattle.vex_encode.specs.Assembly.{IsAsked, IsPlaced};
 ghost use Rattle.vex_encode.specs.Canon.{canon};
 ghost use Rattle.vex_encode.specs.Encode.{best, first, is_address, shorter_of, standard_of};
-ghost use Rattle.vex_encode.specs.Kind.{kind_seen};
+ghost use Rattle.vex_forms.specs.Reads.{kind_seen};
 ghost use Rattle.vex_encode.specs.Standard.{candidate};
 
 use crate::assembly::operand_fields;
 use crate::fits::given;
-use crate::kind::Kind;
 use crate::operand_walk::Asked;
 use crate::place::place_of;
 use crate::spell::spell;
@@ -30,7 +29,7 @@ use arrayvec::ArrayVec;
 use std::sync::ledger::Ledger;
 use step_counter::Steps;
 use vex_forms::laws::rows_are_choices;
-use vex_forms::{Choice, is_row, rules_allow};
+use vex_forms::{Choice, Kind, is_row, rules_allow};
 use vex_rows::{Entry, Few, Form, Prefix, entries_of, row_of_form};
 use x86_operand::{Instruction, Opcode, Operand};
 

@@ -5,13 +5,12 @@ ghost use Rattle.x86_operand.specs.Meaning.{operand_meaning};
 ghost use Rattle.vex_forms.specs.Layout.{chosen};
 ghost use Rattle.vex_forms.specs.Slots.{slots};
 ghost use Rattle.vex_encode.specs.Assembly.{IsAddressOf, IsAsked, IsRegisterOf};
-ghost use Rattle.vex_encode.specs.Kind.{kind_seen};
+ghost use Rattle.vex_forms.specs.Reads.{kind_seen};
 ghost use Rattle.vex_encode.specs.Conditions.{AddressFits, CanGive, OperandsFit, PlacedFits, RegisterFits};
 ghost use Rattle.vex_encode.specs.Conditions.{SlotBaseFits, SlotIndexFits};
 
-use crate::kind::Kind;
 use crate::operand_walk::{Asked, operands_asked};
-use vex_forms::{Choice, Slot};
+use vex_forms::{Choice, Kind, Slot};
 use x86_operand::{Address, Index, Instruction, Operand, RegSpec, RegisterBank};
 
 /// Whether a register is one of the sixteen of a bank that a prefix can name.
@@ -123,14 +122,14 @@ pub fn given(kind: Kind, choice: &Choice, instruction: &Instruction) -> Option<A
     ensures asked { IfSome result (IsAsked instruction.now.meaning.operands (slots (chosen choice.now))
         instruction.now.meaning.operands) }
 {
-    let slots = choice.slots();
+    let (slots, index_bank) = choice.slots_and_index_bank();
     if !first_may_fit(kind, slots.as_slice(), instruction) {
         return None;
     }
     if instruction.is_evex() || instruction.mem_size() != choice.memory_size() {
         return None;
     }
-    let asked = operands_asked(kind, choice.index_bank(), slots.as_slice(), instruction)?;
+    let asked = operands_asked(kind, index_bank, slots.as_slice(), instruction)?;
     if instruction.opcode().is(choice.opcode()) {
         Some(asked)
     } else {

@@ -20,7 +20,6 @@ mod encode;
 #[cfg(test)]
 mod example;
 mod fits;
-mod kind;
 pub mod laws;
 mod operand_walk;
 mod place;

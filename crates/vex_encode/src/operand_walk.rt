@@ -8,12 +8,11 @@ ghost use Rattle.vex_forms.specs.declared.slot.Slot.{Slot};
 ghost use Rattle.vex_forms.specs.Slots.{names_imm};
 ghost use Rattle.vex_encode.specs.Assembly.{IsAsked, IsRegisterOf};
 ghost use Rattle.vex_encode.specs.Conditions.{OperandFits, OperandsFit};
-ghost use Rattle.vex_encode.specs.Kind.{kind_seen};
+ghost use Rattle.vex_forms.specs.Reads.{kind_seen};
 ghost use Rattle.vex_encode.specs.Standard.{imm_of, number_of};
 
 use crate::fits::placed_fits;
-use crate::kind::Kind;
-use vex_forms::Slot;
+use vex_forms::{Kind, Slot};
 use x86_operand::{Instruction, Operand, RegisterBank};
 
 /// The number of a register, 0 of all else.

@@ -4,10 +4,10 @@ ghost use Rattle.std.specs.Prelude.{◌≡◌, ◌%◌, true};
 ghost use Rattle.x86_operand.specs.Kind.{is_vector};
 ghost use Rattle.vex_rows.specs.Row.{is_memory, is_memory_of};
 ghost use Rattle.vex_forms.specs.FormWalk.{kind_by};
-ghost use Rattle.vex_forms.specs.Layout.{kind_at};
+ghost use Rattle.vex_forms.specs.Layout.{chosen};
 ghost use Rattle.vex_forms.specs.Reads.{kind_seen};
 
-use crate::row_layout::RowLayout;
+use crate::choice::Choice;
 use vex_rows::{Entry, row_of_form};
 
 /// What stands in the place of the operand E.
@@ -24,15 +24,17 @@ pub enum Kind {
 }
 
 impl Kind {
-    /// The kind in a row, by its layout and whether its operand E is in memory.
-    pub fn of(layout: &RowLayout, memory: bool) -> Kind
-        ensures { kind_seen result ≡ kind_at layout.now.has_modrm layout.now.vector memory }
+    /// The kind in the row that is chosen.
+    #[inline(always)]
+    pub fn of(choice: &Choice) -> Kind
+        ensures { kind_seen result ≡ (chosen choice.now).kind }
     {
-        if !layout.has_modrm {
+        let form = choice.form_row();
+        if !form.modrm {
             Kind::WithoutModRM
-        } else if !memory {
+        } else if !choice.memory {
             Kind::Register
-        } else if layout.vector {
+        } else if form.gathers {
             Kind::Vector
         } else {
             Kind::Memory

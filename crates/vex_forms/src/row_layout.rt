@@ -6,7 +6,6 @@ ghost use Rattle.vex_forms.specs.Layout.{IsLayout, chosen, may_be, row_for};
 
 use crate::choice::{Choice, is_row, rules_allow};
 use crate::slot::{Slot, VvvvRule};
-use crate::slots::first_slots;
 use arrayvec::ArrayVec;
 use vex_rows::Entry;
 use x86_operand::{MemoryAccessSize, Opcode, RegisterBank};
@@ -58,10 +57,10 @@ impl Choice {
         ensures some { IsSome result }
         ensures row { IfSome result (IsLayout (chosen self.now)) }
     {
-        let (shape, index_bank) = self.shape_and_index_bank();
+        let (slots, index_bank) = self.slots_and_index_bank();
         Some(RowLayout {
             opcode: self.opcode(),
-            slots: first_slots(shape.slots, shape.slot_count),
+            slots,
             vvvv: self.vvvv_rule(),
             mem_size: self.memory_size(),
             vector: self.is_vector(),

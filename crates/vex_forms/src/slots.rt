@@ -45,7 +45,7 @@ fn gather_banks(l: bool, opcode: Opcode) -> (bool, RegisterBank)
 
 /// The first of four slots.
 #[inline(always)]
-pub fn first_slots(slots: (Slot, Slot, Slot, Slot), count: u8) -> ArrayVec<Slot, 4>
+fn first_slots(slots: (Slot, Slot, Slot, Slot), count: u8) -> ArrayVec<Slot, 4>
     ensures { result.items ≡ take count (slots.0 ∷ slots.1 ∷ slots.2 ∷ slots.3 ∷ []) }
 {
     let (a, b, c, d) = slots;
@@ -59,7 +59,7 @@ impl Choice {
     /// where the opcode says the banks, that of the form at the W or L with these banks. The index is a vector register
     /// where the form gathers, and of bank `Q` elsewhere.
     #[inline(always)]
-    pub fn shape_and_index_bank(&self) -> (&'static RowShape, RegisterBank)
+    pub(crate) fn shape_and_index_bank(&self) -> (&'static RowShape, RegisterBank)
         ensures slots { slots_seen result.0.now ≡ slots (chosen self.now) }
         ensures index { result.1 ≡ index_bank (chosen self.now) }
     {
@@ -78,5 +78,16 @@ impl Choice {
                 )
             }
         }
+    }
+
+    /// The slots of the row, one for each operand in order, and the bank of the index of an address: a vector register
+    /// where the form gathers, and `Q` elsewhere.
+    #[inline(always)]
+    pub fn slots_and_index_bank(&self) -> (ArrayVec<Slot, 4>, RegisterBank)
+        ensures slots { result.0.items ≡ slots (chosen self.now) }
+        ensures index { result.1 ≡ index_bank (chosen self.now) }
+    {
+        let (shape, index_bank) = self.shape_and_index_bank();
+        (first_slots(shape.slots, shape.slot_count), index_bank)
     }
 }

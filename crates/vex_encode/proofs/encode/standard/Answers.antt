@@ -5,7 +5,7 @@ use Rattle.vex_forms.specs.Layout.{chosen, row_for}
 use Rattle.vex_forms.specs.Slots.{index_bank}
 use Rattle.vex_encode.specs.Assembly.{IsPlaced}
 use Rattle.vex_encode.specs.Encode.{standard_of}
-use Rattle.vex_encode.specs.Kind.{kind_seen}
+use Rattle.vex_forms.specs.Reads.{kind_seen}
 use Rattle.vex_encode.proofs.Entries.{no_row, first_true, second_true, standard_given, standard_refused}
 use Rattle.vex_encode.proofs.Written.{chosen_group, chosen_placed}
 use Rattle.vex_encode.proofs.encode.standard.Goals as goal
@@ -22,7 +22,7 @@ spelling_by-requires-clause-e c =
       index_bank (chosen choice),
       subst (IsPlaced (kind_seen c.of-kind.result) (index_bank (chosen choice)))
           (sym c.in-Some.ensures.asked.e)
-          (chosen_placed choice (kind_seen c.of-kind.result) c.args.instruction.now.meaning c.of-kind.ensures
+          (chosen_placed choice (kind_seen c.of-kind.result) c.args.instruction.now.meaning (sym c.of-kind.ensures)
           (c.in-Some.ensures.gives.0 refl)),
     )
 

@@ -1,6 +1,6 @@
 -- As many operands as slots, and each fits.
 use Rattle.std.proofs.Common.{arith, ◌-◌}
-use Rattle.vex_encode.specs.Kind.{kind_seen}
+use Rattle.vex_forms.specs.Reads.{kind_seen}
 use Rattle.vex_encode.proofs.Fitting.{fit_drop, fit_length, fit_parts}
 use Rattle.vex_encode.proofs.operand_walk.operands_asked.Goals as goal
 

@@ -2,7 +2,7 @@
 use Rattle.std.proofs.Common.{◌≡◌, ◌≤◌, drop, length}
 use Rattle.vex_encode.specs.Assembly.{IsAsked}
 use Rattle.vex_encode.specs.Conditions.{OperandsFit}
-use Rattle.vex_encode.specs.Kind.{kind_seen}
+use Rattle.vex_forms.specs.Reads.{kind_seen}
 use Rattle.vex_encode.proofs.operand_walk.operands_asked.Given as goal
 
 abbrev pub invariant-loop-i : goal.invariant-loop-i
