@@ -1,5 +1,5 @@
 -- The slots are those of the form's shape at the W or L with the banks that the opcode says.
-use Rattle.std.proofs.Common.{◌≡◌, ap, refl, sym, ◌∙◌}
+use Rattle.std.proofs.Common.{ap, refl, sym, ◌∙◌}
 use Rattle.vex_forms.specs.Shapes.{slots_seen}
 use Rattle.vex_forms.proofs.Shaping.{element_shaped, gather_shaped, gather_index_shaped, plain_index_shaped}
 use Rattle.vex_forms.proofs.choice.Choice.shape_and_index_bank.Goals as goal
