@@ -5,7 +5,7 @@ use Rattle.x86_settings.specs.Sets.{exactly}
 use Rattle.x86_permit.specs.LeastSettings.{least}
 use Rattle.vex_encode.specs.Sweep.Lemmas.{are_bytes}
 use Rattle.vex_check.specs.Accepted.{EndsWhereCovered, StopsAtLeastLack}
-use Rattle.vex_check.specs.Needs.{all_needed, firsts, run}
+use Rattle.vex_check.specs.Needs.{all_needed, run}
 use Rattle.vex_check.specs.FirstPlaces.{noted}
 use Rattle.vex_check.proofs.Checking.{Checking, checking-count, checking-fault, checking-first, checking-firsts}
 use Rattle.vex_check.proofs.Checking.{checking-least, checking-none, checking-step}
