@@ -20,39 +20,7 @@ use Rattle.vex_forms.specs.WellFormed.{immediates}
 use Rattle.vex_forms.specs.Slots.{names_g, names_v, names_e, names_imm}
 use Rattle.vex_decode.specs.Spelling.{FitsGroup}
 use Rattle.vex_encode.specs.Standard.{operand_of_kind, number_of, imm_of, target_of, reg_for}
-
--- the first operand whose slot passes a test, among operands that a function gives of the slots
-pub record First (is : Slot → Bool) (f : Slot → OperandMeaning) (slots : List Slot) : Type 0 where
-  pub slot : Slot
-  pub among : Among slot slots
-  pub passes : is slot ≡ true
-  pub operand : operand_of_kind is slots (map f slots) ≡ f slot
-
-first_operand : (is : Slot → Bool) (f : Slot → OperandMeaning) (slots : List Slot) (slot : Slot) → Among slot slots
-    → is slot ≡ true → First is f slots
-first_operand is f [] slot m h = absurd m
-first_operand is f (s ∷ slots) slot m h = by (is s) refl m (λ k. first_operand is f slots slot k h) where
-  by : (b : Bool) → is s ≡ b → Among slot (s ∷ slots) → (Among slot slots → First is f slots) → First is f (s ∷ slots)
-  by true e k next = record { slot = s; among = inl refl; passes = e; operand = rw e refl }
-  by false e (inl k) next = absurd (cc)
-  by false e (inr k) next = let later = next k in record { slot = later.slot; among = inr later.among; passes = later.passes; operand = rw e later.operand }
-
--- there is such a slot, or no operand
-pub first_or_none : (is : Slot → Bool) (f : Slot → OperandMeaning) (slots : List Slot)
-    → First is f slots ⊎ (operand_of_kind is slots (map f slots) ≡ nothing)
-first_or_none is f [] = inr refl
-first_or_none is f (s ∷ slots) = by (is s) refl (first_or_none is f slots) where
-  by : (b : Bool) → is s ≡ b → First is f slots ⊎ (operand_of_kind is slots (map f slots) ≡ nothing)
-      → First is f (s ∷ slots) ⊎ (operand_of_kind is (s ∷ slots) (map f (s ∷ slots)) ≡ nothing)
-  by true e next = inl (record { slot = s; among = inl refl; passes = e; operand = rw e refl })
-  by false e (inl later) = inl (record {
-    slot = later.slot;
-    among = inr later.among;
-    passes = later.passes;
-    operand =
-        rw e later.operand;
-  })
-  by false e (inr none) = inr (rw e none)
+use Rattle.vex_encode.specs.Standard.Lemmas.{First, first_operand, g_given, v_given, e_given, signed_again}
 
 -- no operand where no slot passes
 pub no_operand : (is : Slot → Bool) (slots : List Slot) (operands : List OperandMeaning) → list_any is slots ≡ false
@@ -64,44 +32,6 @@ no_operand is (s ∷ slots) (operand ∷ operands) h = by (is s) (list_any is sl
       → (if b then operand else operand_of_kind is slots operands) ≡ nothing
   by true c h next = cc
   by false c h next = next h
-
-module _ (index_bank : RegisterBank) (r v reg : ℕ) (e : Target) (imm : ℕ) where
-  given : Slot → OperandMeaning
-  given = slot_operand index_bank r v reg e imm
-
-  -- what the first slot of each kind says
-  g_given : (slot : Slot) → names_g slot ≡ true → number_of (slot_operand index_bank r v reg e imm slot) ≡ reg + 8 * r
-  g_given (G bank) h = refl
-  g_given (V bank) h = cc
-  g_given (E bank) h = cc
-  g_given U8 h = cc
-  g_given I8 h = cc
-  g_given (R4 bank) h = cc
-
-  v_given : (slot : Slot) → names_v slot ≡ true → number_of (slot_operand index_bank r v reg e imm slot) ≡ v
-  v_given (V bank) h = refl
-  v_given (G bank) h = cc
-  v_given (E bank) h = cc
-  v_given U8 h = cc
-  v_given I8 h = cc
-  v_given (R4 bank) h = cc
-
-  e_operand : (bank : RegisterBank) (kind : Kind) (e : Target) → kind_of_target e ≡ plain_kind kind
-      → target_of kind (target_operand bank index_bank e) ≡ e
-  e_operand bank WithoutModRM NoTarget h = refl
-  e_operand bank InRegister (Number n) h = refl
-  e_operand bank InMemory (At a) h = ap At (plain-in_banks index_bank a)
-  e_operand bank VectorIndexed (At a) h = ap At (plain-in_banks index_bank a)
-  e_operand bank _ _ h = cc
-
-  pub e_given : (kind : Kind) (slot : Slot) → names_e slot ≡ true → kind_of_target e ≡ plain_kind kind
-      → target_of kind (slot_operand index_bank r v reg e imm slot) ≡ e
-  e_given kind (E bank) h k = e_operand bank kind e k
-  e_given kind (G bank) h k = cc
-  e_given kind (V bank) h k = cc
-  e_given kind U8 h k = cc
-  e_given kind I8 h k = cc
-  e_given kind (R4 bank) h k = cc
 
 -- an immediate slot makes the count at least 1
 counted : (slot : Slot) (slots : List Slot) → Among slot slots → names_imm slot ≡ true → 1 ≤ immediates slots
@@ -123,9 +53,6 @@ only_immediate (s ∷ slots) a b few (inr m) (inl f) h k =
     let few' : 1 + immediates slots ≤ 1 = subst (λ c. (if c then 1 else 0) + immediates slots ≤ 1) t few in
     absurd (omega (arith, counted a slots m h))
 only_immediate (s ∷ slots) a b few (inr m) (inr n) h k = only_immediate slots a b (omega arith) m n h k
-
-signed_again : (imm : ℕ) → imm < 256 → cast_unsigned w8 (cast_signed w8 imm) % 256 ≡ imm
-signed_again imm h = let e : cast_unsigned w8 (cast_signed w8 imm) ≡ imm = of_z-to_z w8 imm h in rw e (omega arith)
 
 fourth_again : (imm : ℕ) → imm < 256 → ((16 * (imm / 16)) % 256) / 16 ≡ imm / 16
 fourth_again imm h = omega arith

@@ -42,7 +42,8 @@ use Rattle.vex_decode.specs.Spelling.{IsSyntax, SpellsBy}
 use Rattle.vex_forms.specs.FormWalk.Lemmas.{ordered}
 use Rattle.vex_encode.specs.Standard.{operand_of_kind, number_of, imm_of, target_of, fields_for, reg_for, candidate}
 use Rattle.vex_encode.specs.Standard.{is_placed, is_given, standard}
-use Rattle.vex_encode.proofs.Candidate.{first_or_none, no_operand, e_given, map_same, slot_again}
+use Rattle.vex_encode.specs.Standard.Lemmas.{first_or_none, e_given}
+use Rattle.vex_encode.proofs.Candidate.{no_operand, map_same, slot_again}
 
 -- a form of prefix is chosen only where it can say the fields
 map_one : (map : Map) → (map_number map == 1) ≡ true → map ≡ Map0F
@@ -262,7 +263,7 @@ asked row s is =
           ∙ e_given (index_bank row) s.fields.r s.fields.v s.reg
           (target (is_vector row.kind) s.place s.fields.x s.fields.b) s.imm row.kind first.slot first.passes
           (kind_of_target-target (is_vector row.kind) s.place s.fields.x s.fields.b ∙ is.kind.plain))
-      | inr none ↦ inr none
+      | inr none ↦ inr none.0
     ]
 
 -- nothing is asked for by a place with SIB, where the index is a vector register

@@ -1,3 +1,4 @@
+pub mod Lemmas
 use Rattle.std.specs.Prelude.{pos, ℕ, ◌*◌, ◌/◌, ◌%◌, Bool, not, ◌&&◌, ◌||◌, List, [], ◌∷◌, Option, Some, None}
 use Rattle.std.specs.Prelude.{if◌then◌else◌}
 use Rattle.std.specs.Int.{cast_unsigned, w8}

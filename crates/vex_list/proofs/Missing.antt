@@ -7,7 +7,8 @@ use Rattle.std.proofs.Common.{arith, ap, sym, ◌∙◌, inl, inr, subst}
 use Rattle.std.proofs.lemmas.Int.{of_z-to_z}
 use Rattle.x86_opcode.specs.declared.Opcode.{Opcode}
 use Rattle.x86_operand.specs.declared.register.RegisterBank.{RegisterBank}
-use Rattle.x86_operand.specs.Kind.{Kind, WithoutModRM, InRegister, is_vector, plain_kind, memory_kind}
+use Rattle.x86_operand.specs.Kind.{Kind, WithoutModRM, InRegister, InMemory, VectorIndexed, is_vector, plain_kind}
+use Rattle.x86_operand.specs.Kind.{memory_kind}
 use Rattle.x86_operand.specs.Meaning.{OperandMeaning, nothing, Meaning}
 use Rattle.x86_address.specs.Bytes.{bit}
 use Rattle.x86_address.specs.Place.{Place, NoPlace, Direct, Based, RipBased, Scaled, Baseless, kind_of, Target}
@@ -28,6 +29,7 @@ use Rattle.vex_forms.specs.Slots.{slots, index_bank, names_g, names_v, names_e, 
 use Rattle.vex_decode.specs.Spelling.{Syntax, IsSyntax, meant, FitsGroup, FitsReg, FitsRule, FitsImm}
 use Rattle.vex_decode.specs.Fields as fields
 use Rattle.vex_encode.specs.Standard.{operand_of_kind, number_of, imm_of, target_of, reg_for}
+use Rattle.vex_encode.specs.Standard.Lemmas.{First, first_or_none, found, g_given, v_given, e_given, signed_again}
 use Rattle.vex_list.specs.declared.choices.PrefixForm as code
 use Rattle.vex_list.specs.declared.choices.PrefixForm.TheVariants.{TwoBytes, ThreeBytes}
 use Rattle.vex_list.specs.declared.choices.Choices.{Choices}
@@ -37,76 +39,22 @@ use Rattle.vex_list.specs.Laws.{IsMade}
 use Rattle.vex_list.proofs.Full.{full_row}
 use Rattle.vex_list.proofs.Places.{form_of, place_again, form_fits, is_address_form, x_allowed, b_allowed}
 
--- ---- the first slot of a kind
-
--- the first operand whose slot passes a test, among operands that a function gives of the slots
-record First (is : Slot → Bool) (f : Slot → OperandMeaning) (slots : List Slot) : Type 0 where
-  slot : Slot
-  passes : is slot ≡ true
-  operand : operand_of_kind is slots (map f slots) ≡ f slot
-
--- there is such a slot, or no operand
-first_or_none : (is : Slot → Bool) (f : Slot → OperandMeaning) (slots : List Slot)
-    → First is f slots ⊎ ((operand_of_kind is slots (map f slots) ≡ nothing) × (list_any is slots ≡ false))
-first_or_none is f [] = inr (refl, refl)
-first_or_none is f (s ∷ slots) = by (is s) refl (first_or_none is f slots) where
-  by : (b : Bool) → is s ≡ b → First is f slots
-      ⊎ ((operand_of_kind is slots (map f slots) ≡ nothing) × (list_any is slots ≡ false))
-      → First is f (s ∷ slots) ⊎ ((operand_of_kind is (s ∷ slots) (map f (s ∷ slots)) ≡ nothing)
-      × (list_any is (s ∷ slots) ≡ false))
-  by true e next = inl (record { slot = s; passes = e; operand = rw e refl })
-  by false e (inl later) = inl (record { slot = later.slot; passes = later.passes; operand = rw e later.operand })
-  by false e (inr none) = inr (rw e none.0, rw e none.1)
-
--- a slot that is there is found
-found : (is : Slot → Bool) (f : Slot → OperandMeaning) (slots : List Slot) → list_any is slots ≡ true → First is f slots
-found is f slots h = elim (first_or_none is f slots)
-    [ inl first ↦ first | inr none ↦ absurd (no (list_any is slots) h none.1) ] where
-      no : (b : Bool) → b ≡ true → b ≡ false → ⊥
-      no b h k = cc
-
 -- ---- what a slot of each kind says
 
+-- a kind without what its index is has no more to lose
+plain_again : (kind : Kind) → plain_kind (plain_kind kind) ≡ plain_kind kind
+plain_again WithoutModRM = refl
+plain_again InRegister = refl
+plain_again InMemory = refl
+plain_again VectorIndexed = refl
+
 module _ (index_bank : RegisterBank) (r v reg : ℕ) (e : Target) (imm : ℕ) where
-  g_slot : (slot : Slot) → names_g slot ≡ true → number_of (slot_operand index_bank r v reg e imm slot) ≡ reg + 8 * r
-  g_slot (G bank) h = refl
-  g_slot (V bank) h = cc
-  g_slot (E bank) h = cc
-  g_slot U8 h = cc
-  g_slot I8 h = cc
-  g_slot (R4 bank) h = cc
-
-  v_slot : (slot : Slot) → names_v slot ≡ true → number_of (slot_operand index_bank r v reg e imm slot) ≡ v
-  v_slot (V bank) h = refl
-  v_slot (G bank) h = cc
-  v_slot (E bank) h = cc
-  v_slot U8 h = cc
-  v_slot I8 h = cc
-  v_slot (R4 bank) h = cc
-
-  e_operand : (bank : RegisterBank) (e : Target) → target_of (kind_of_target e) (target_operand bank index_bank e) ≡ e
-  e_operand bank NoTarget = refl
-  e_operand bank (Number n) = refl
-  e_operand bank (At a) = ap At (plain-in_banks index_bank a)
-
-  e_slot : (slot : Slot) → names_e slot ≡ true
-      → target_of (kind_of_target e) (slot_operand index_bank r v reg e imm slot) ≡ e
-  e_slot (E bank) h = e_operand bank e
-  e_slot (G bank) h = cc
-  e_slot (V bank) h = cc
-  e_slot U8 h = cc
-  e_slot I8 h = cc
-  e_slot (R4 bank) h = cc
-
-  signed_again : imm < 256 → cast_unsigned w8 (cast_signed w8 imm) % 256 ≡ imm
-  signed_again h = let e : cast_unsigned w8 (cast_signed w8 imm) ≡ imm = of_z-to_z w8 imm h in rw e (omega arith)
-
   imm_slot : (slot : Slot) → imm < 256 → names_imm slot ≡ true →
       (imm_of (slot_operand index_bank r v reg e imm slot) ≤ imm)
       × (imm < imm_of (slot_operand index_bank r v reg e imm slot)
       + lows_of (slot_operand index_bank r v reg e imm slot))
   imm_slot U8 l h = (omega arith, omega arith)
-  imm_slot I8 l h = let again = signed_again l in (omega (arith, again), omega (arith, again))
+  imm_slot I8 l h = let again = signed_again imm l in (omega (arith, again), omega (arith, again))
   imm_slot (R4 bank) l h = (omega arith, omega arith)
   imm_slot (G bank) l h = cc
   imm_slot (V bank) l h = cc
@@ -233,11 +181,10 @@ module _ (row : Row) (s : Syntax) (is_row : IsRow row) (is : IsSyntax row s) whe
         (sym (no_place s.place (is.kind.plain ∙ kind))))
     | inr modrm ↦
         let first = found names_e operand (slots row) (asked _ _ (full_row row).e modrm) in
-        let kind : plain_kind row.kind ≡ kind_of_target e_meant =
-        sym (kind_of_target-target (is_vector row.kind) s.place s.fields.x s.fields.b ∙ is.kind.plain) in
         ap (target_of (plain_kind row.kind)) first.operand
-        ∙ ap (λ k. target_of k (operand first.slot)) kind
-        ∙ e_slot (index_bank row) s.fields.r s.fields.v s.reg e_meant s.imm first.slot first.passes
+        ∙ e_given (index_bank row) s.fields.r s.fields.v s.reg e_meant s.imm (plain_kind row.kind) first.slot
+        first.passes (kind_of_target-target (is_vector row.kind) s.place s.fields.x s.fields.b ∙ is.kind.plain
+        ∙ sym (plain_again row.kind))
   ]
 
   below : s.reg < 8
@@ -245,7 +192,7 @@ module _ (row : Row) (s : Syntax) (is_row : IsRow row) (is : IsSyntax row s) whe
 
   g_is : (first : First names_g operand (slots row)) → number_of (operand_named names_g) ≡ s.reg + 8 * s.fields.r
   g_is first = ap number_of first.operand
-      ∙ g_slot (index_bank row) s.fields.r s.fields.v s.reg e_meant s.imm first.slot first.passes
+      ∙ g_given (index_bank row) s.fields.r s.fields.v s.reg e_meant s.imm first.slot first.passes
 
   reg_named : row.group ≡ None → (number_of (operand_named names_g) ≡ s.reg + 8 * s.fields.r)
       ⊎ ((number_of (operand_named names_g) ≡ 0) × (s.reg ≡ 0))
@@ -295,7 +242,7 @@ module _ (row : Row) (s : Syntax) (is_row : IsRow row) (is : IsSyntax row s) whe
     by Named h fits =
         let first = found names_v operand (slots row) (v_named row h) in
         let v_is = ap number_of first.operand
-        ∙ v_slot (index_bank row) s.fields.r s.fields.v s.reg e_meant s.imm first.slot first.passes in
+        ∙ v_given (index_bank row) s.fields.r s.fields.v s.reg e_meant s.imm first.slot first.passes in
         omega (arith, v_is, is.prefix.v)
     by Zero h fits = fits
     by Free h fits = tt
