@@ -17,11 +17,10 @@ use Rattle.x86_address.specs.Reading.Places.{take_place-again}
 use Rattle.x86_address.specs.Reading.Places.{reading_is_spelling}
 use Rattle.vex_rows.specs.declared.entry.Entry.{Entry}
 use Rattle.vex_rows.specs.declared.steps.Check.{Check}
-use Rattle.vex_rows.specs.declared.steps.Check.TheVariants.{V0, L0, Reg, Mem, Group, VifMem}
 use Rattle.vex_rows.specs.FormRows.{gathers}
 use Rattle.vex_rows.specs.Steps.{FormSteps, steps}
 use Rattle.vex_rows.specs.Row.{Among, kinds_of, is_register}
-use Rattle.vex_rows.specs.WellFormed.{is_prefix_check, is_modrm_check, is_late_check, is_register_check, is_none}
+use Rattle.vex_rows.specs.WellFormed.{is_register_check, is_none}
 use Rattle.vex_rows.specs.Row.Lists.{both-parts}
 use Rattle.vex_forms.specs.Fields.{Fields}
 use Rattle.vex_decode.specs.Spelling.{FitsReg, FitsImm, imm_bytes}

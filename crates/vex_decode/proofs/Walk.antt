@@ -1,5 +1,5 @@
 -- A decode reads again what a row writes, and what it reads was so written.
-use Rattle.std.specs.Prelude.{◌≡◌, refl, ◌⊎◌, ℕ, Bool, true, false, ◌&&◌, ◌||◌, ◌==◌, List, [], ◌∷◌, ◌++◌, map, Ok}
+use Rattle.std.specs.Prelude.{◌≡◌, refl, ◌⊎◌, ℕ, Bool, true, false, ◌||◌, ◌==◌, List, [], ◌∷◌, ◌++◌, map, Ok}
 use Rattle.std.specs.Prelude.{Option, Some, None, if◌then◌else◌}
 use Rattle.std.specs.List.{list_all, list_any}
 use Rattle.std.proofs.Common.{arith, ap, ap₂, sym, ◌∙◌, inl, inr, subst, append_assoc}
@@ -11,7 +11,6 @@ use Rattle.x86_address.specs.Place.{place_bytes}
 use Rattle.x86_address.specs.Reading.{take_byte}
 use Rattle.x86_address.specs.Reading.Lemmas.{Answers, Answers-ok, Answers-bind, ReadsByte, take_byte-written}
 use Rattle.vex_rows.specs.declared.entry.Entry.{Entry}
-use Rattle.vex_rows.specs.declared.form.Form.{Form}
 use Rattle.vex_rows.specs.declared.key.Map.{Map}
 use Rattle.vex_rows.specs.declared.key.Map.TheVariants.{Map0F, Map0F38, Map0F3A}
 use Rattle.vex_rows.specs.declared.key.Pp.{Pp}
@@ -26,7 +25,7 @@ use Rattle.vex_rows.specs.Row.{Row, Among, IsRow, is_memory, is_group, is_group_
 use Rattle.vex_rows.specs.Row.{permits_choice, group_allowed, has_imm}
 use Rattle.vex_rows.specs.WellFormed.{is_prefix_check, is_modrm_check, is_late_check}
 use Rattle.vex_rows.specs.Row.Lists.{both-parts, from-list_all, list_all-each, found-find, find-only, among-append_left}
-use Rattle.vex_rows.specs.Row.Lists.{among-append_right, among-append, from-map}
+use Rattle.vex_rows.specs.Row.Lists.{among-append_right, from-map}
 use Rattle.vex_rows.specs.Row.Lemmas.{Chosen, chosen-row, row-chosen, checks_of}
 use Rattle.vex_rows.specs.Table.Lemmas.{one_entry, from-has_key, to-has_key}
 use Rattle.vex_forms.specs.declared.slot.VvvvRule.{VvvvRule}

@@ -1,6 +1,5 @@
 -- The laws of permission.
 use Rattle.std.proofs.Common.{◌≡◌, true, false, refl, sym, ◌∙◌}
-use Rattle.x86_opcode.specs.declared.Opcode.{Opcode}
 use Rattle.x86_opcode.specs.declared.condition.Condition.{Condition}
 use Rattle.x86_opcode.specs.declared.condition.Condition.TheVariants.{ThreeDNow}
 use Rattle.x86_opcode.specs.Condition.{opcode_condition}

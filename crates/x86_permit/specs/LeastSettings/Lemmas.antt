@@ -1,5 +1,5 @@
 -- What permits VEX opcodes.
-use Rattle.std.proofs.Common.{◌≡◌, Bool, true, false, List, ◌&&◌, refl, sym, ap}
+use Rattle.std.proofs.Common.{◌≡◌, Bool, true, false, List, ◌&&◌, sym, ap}
 use Rattle.std.proofs.Math.Bool.{and-true}
 use Rattle.x86_opcode.specs.declared.Opcode.{Opcode}
 use Rattle.x86_opcode.specs.declared.Opcode.TheVariants.{Invalid, BSF, Legacy, Integer, Float, Fused, Marked}
