@@ -1,5 +1,4 @@
 pub mod EndsLemmas
-pub mod HexDigitsLemmas
 pub mod ReportLemmas
 pub mod LineMachineLemmas
 pub mod FeedLemmas

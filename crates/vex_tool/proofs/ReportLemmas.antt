@@ -1,11 +1,12 @@
 -- What is written for a line, by what decoding its digits answered.
-use Rattle.std.proofs.Common.{◌≡◌, ℕ, ◌<◌, ◌≤◌, Bool, true, false, not, cond, ltb, List, [], ◌∷◌, length}
-use Rattle.std.proofs.Common.{Result, Ok, Err, ap, ◌∙◌, sym, refl, arith}
+use Rattle.std.proofs.Common.{◌≡◌, ℕ, ◌/◌, ◌<◌, ◌≤◌, Bool, true, false, not, cond, ltb, List, [], ◌∷◌, ◌++◌}
+use Rattle.std.proofs.Common.{length, take, Result, Ok, Err, ap, ◌∙◌, sym, subst, refl, arith}
 use Rattle.std.specs.List.{AllPass}
-use Rattle.std.specs.Prelude.{IsErr}
+use Rattle.std.specs.Prelude.{MatchResult, IsErr}
 use Rattle.std.proofs.lemmas.Bool.Decides.{nat_tests}
 use Rattle.std.proofs.lemmas.List.Elements.{All-head, All-tail}
-use Rattle.hex.specs.Hex.{decode_of, is_hex_digit}
+use Rattle.std.proofs.lemmas.List.{take_at}
+use Rattle.hex.specs.Hex.{decode_of, decode_sized, is_hex_digit}
 use Rattle.hex.specs.declared.error.FromHexError.{FromHexError}
 use Rattle.hex.proofs.HexLemmas.{decode_of-ok}
 use Rattle.vex_tool.specs.declared.command.Command.{Command}
@@ -14,6 +15,49 @@ use Rattle.vex_tool.specs.declared.command.Command.TheVariants.{Make}
 use Rattle.vex_tool.specs.declared.report.LineError.TheVariants.{BadHex, LongLine}
 use Rattle.vex_tool.specs.Report.{report, code, code_report, digits, is_blank, or_bad_hex, taken}
 use Rattle.vex_tool.proofs.LineMachineLemmas.{SameForLong}
+
+-- room for half as many bytes as there are digits is as good as any
+decode_sized-half : (text : List ℕ) → decode_sized text (length text / 2) ≡ decode_of text
+decode_sized-half text = grind (arith, nat_tests)
+
+-- what decoding answered, and left in the room that it was given
+abbrev pub Decoded : Result (List ℕ) FromHexError → Result (Unit {0}) FromHexError → List ℕ → Type 0
+Decoded r answer out = MatchResult r (λ bytes. (answer ≡ Ok tt) × (out ≡ bytes)) (λ e. answer ≡ Err e)
+
+decoded_ok : (r : Result (List ℕ) FromHexError) (answer : Result (Unit {0}) FromHexError) (out : List ℕ) (x : Unit {0})
+    → Decoded r answer out → answer ≡ Ok x → r ≡ Ok out
+decoded_ok (Ok bytes) answer out x h e = ap Ok (sym h.1)
+decoded_ok (Err d) answer out x h e = cc
+
+decoded_err : (r : Result (List ℕ) FromHexError) (answer : Result (Unit {0}) FromHexError) (out : List ℕ)
+    (d : FromHexError) → Decoded r answer out → answer ≡ Err d → IsErr r
+decoded_err (Ok bytes) answer out d h e = let both = h.0 in cc
+decoded_err (Err x) answer out d h e = refl
+
+-- digits were decoded into room for half as many bytes
+pub record IsDecoded (text room out : List ℕ) (answer : Result (Unit {0}) FromHexError) : Type 0 where
+  pub half : length room ≡ length text / 2
+  pub same_len : length out ≡ length room
+  pub decoded : Decoded (decode_sized text (length room)) answer out
+
+from_decoded : (text room out : List ℕ) (answer : Result (Unit {0}) FromHexError) → IsDecoded text room out answer
+    → decode_of text ≡ decode_sized text (length room)
+from_decoded text room out answer h = sym (decode_sized-half text) ∙ ap (decode_sized text) (sym h.half)
+
+-- digits that write bytes
+pub bytes-decoded : (text room out rest : List ℕ) (answer : Result (Unit {0}) FromHexError) (x : Unit {0})
+    → IsDecoded text room out answer
+    → answer ≡ Ok x → decode_of text ≡ Ok (take (length text / 2) (out ++ rest))
+bytes-decoded text room out rest answer x h e =
+    from_decoded text room out answer h
+    ∙ decoded_ok (decode_sized text (length room)) answer out x h.decoded e
+    ∙ ap Ok (sym (take_at out rest (length text / 2) (h.same_len ∙ h.half)))
+
+-- digits that write none
+pub bytes-refused : (text room out : List ℕ) (answer : Result (Unit {0}) FromHexError) (d : FromHexError)
+    → IsDecoded text room out answer → answer ≡ Err d → IsErr (decode_of text)
+bytes-refused text room out answer d h e = subst IsErr (sym (from_decoded text room out answer h))
+    (decoded_err (decode_sized text (length room)) answer out d h.decoded e)
 
 -- a line that isn't too long writes what its digits do
 code-short : (line text : List ℕ) → length line ≤ 8192 → text ≡ digits line

@@ -1,6 +1,6 @@
 //! The text of a line of the output, put together in a fixed buffer.
 
-ghost use Rattle.std.specs.Prelude.{◌≡◌, ◌≤◌, ◌+◌, ◌*◌, ◌++◌, codes, decimal, length, IfSome, IsUtf8};
+ghost use Rattle.std.specs.Prelude.{◌≡◌, ◌≤◌, ◌+◌, ◌*◌, ◌++◌, codes, length, IsUtf8};
 ghost use Rattle.arrayvec.specs.ArrayString.{array_string_len};
 ghost use Rattle.hex.specs.Hex.{encode_lower};
 ghost use Rattle.x86_operand.specs.Note.{note_text};
@@ -18,13 +18,16 @@ use x86_operand::{FieldDescription, InnerDescription, Instruction, Note};
 /// The text of a line as far as it is put together, of at most 256 bytes.
 pub type LineText = ArrayString<MAX_TEXT>;
 
-/// Appends a text that is known to be one: no byte of it is looked at to find out.
+/// Appends a text that is known to be one.
 fn push_digits(text: &mut LineText, digits: &[u8])
     requires text { IsUtf8 digits.now }
     requires room { array_string_len text.old + length digits.now ≤ MAX_TEXT }
     ensures { text.new.bytes ≡ text.old.bytes ++ digits.now }
 {
-    text.push_str(unsafe { str::from_utf8_unchecked(digits) });
+    match str::from_utf8(digits) {
+        Ok(digits) => text.push_str(digits),
+        Err(_) => unreachable!(),
+    }
 }
 
 /// Appends at most 32 bytes in lower-case hex digits.
@@ -42,45 +45,14 @@ pub fn push_hex(text: &mut LineText, bytes: &[u8])
     }
 }
 
-/// The text of a length and a space, for the lengths that are common.
-fn common_length(number: u8) -> Option<&'static str>
-    ensures text { IfSome result (λ word. word.now ≡ decimal number ++ codes " ") }
-    ensures short { IfSome result (λ word. length word.now ≤ 2) }
-{
-    match number {
-        3 => Some("3 "),
-        4 => Some("4 "),
-        5 => Some("5 "),
-        6 => Some("6 "),
-        7 => Some("7 "),
-        8 => Some("8 "),
-        9 => Some("9 "),
-        _ => None,
-    }
-}
-
-/// Appends the length of an instruction and a space.
-fn push_length(text: &mut LineText, number: u8)
-    requires { array_string_len text.old + 21 ≤ MAX_TEXT }
-    ensures written { text.new.bytes ≡ text.old.bytes ++ decimal number ++ codes " " }
-    ensures short { array_string_len text.new ≤ array_string_len text.old + 21 }
-{
-    match common_length(number) {
-        Some(word) => text.push_str(word),
-        None => {
-            append_number(text, usize::from(number));
-            text.push_str(" ");
-        }
-    }
-}
-
 /// Appends the result line of an instruction and its canonical bytes, its line end included.
 fn push_instruction(text: &mut LineText, instruction: &Instruction, spelling: &Spelling)
     requires { array_string_len text.old + 178 ≤ MAX_TEXT }
     ensures { text.new.bytes ≡ text.old.bytes
         ++ instruction_line instruction.now.len instruction.now.meaning spelling.now }
 {
-    push_length(text, instruction.len());
+    append_number(text, usize::from(instruction.len()));
+    text.push_str(" ");
     append(text, instruction);
     text.push_str(" ");
     push_hex(text, spelling.as_slice());

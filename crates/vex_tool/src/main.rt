@@ -54,7 +54,6 @@ mod example;
 mod gatherer;
 mod generator;
 mod halt;
-mod hex_digits;
 mod input;
 mod laws;
 mod least_lines;

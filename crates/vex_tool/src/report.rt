@@ -1,6 +1,8 @@
 //! What is written for a line.
 
-ghost use Rattle.std.specs.Prelude.{◌≡◌, ◌≤◌, [], length, take, Ok, Err, IfOk, IsTrue, MatchResult};
+ghost use Rattle.std.specs.Prelude.{◌≡◌, ◌≤◌, ◌/◌, [], length, take, Ok, Err, IfOk, IfSome, IfNone, IsErr, IsTrue};
+ghost use Rattle.std.specs.Prelude.{MatchResult};
+ghost use Rattle.hex.specs.Hex.{decode_of};
 ghost use Rattle.vex_tool.specs.Ends.{Answers, Writes};
 ghost use Rattle.vex_tool.specs.ErrorLine.{error_line};
 ghost use Rattle.vex_tool.specs.Report.{report, code, code_report, taken, digits, is_blank};
@@ -11,7 +13,6 @@ use crate::command::Command;
 use crate::emulate_lines::{LineMachine, MEMORY, write_emulated};
 use crate::ends::{Failed, Sink};
 use crate::halt::Halt;
-use crate::hex_digits::decode_digits;
 use crate::least_lines::write_least;
 use crate::line_text::{LineText, error_text};
 use crate::note_lines::write_notes;
@@ -64,6 +65,21 @@ fn keep_digits(line: &[u8], kept: &mut ArrayVec<u8, MAX_LINE>)
         if !is_blank(byte) {
             kept.push(byte);
         }
+    }
+}
+
+// Decodes hex digits to the first places of `bytes`, and answers how many bytes they write: `None` where they aren't an
+// even number of such digits.
+fn decode_digits(text: &[u8], bytes: &mut [u8]) -> Option<usize>
+    requires { length text.now / 2 ≤ length bytes.now }
+    ensures within { IfSome result (λ n. n ≤ length bytes.new) }
+    ensures decoded { IfSome result (λ n. decode_of text.now ≡ Ok (take n bytes.new)) }
+    ensures refused { IfNone result (IsErr (decode_of text.now)) }
+{
+    let n = text.len() / 2;
+    match hex::decode_to_slice(text, &mut bytes[..n]) {
+        Ok(()) => Some(n),
+        Err(_) => None,
     }
 }
 
