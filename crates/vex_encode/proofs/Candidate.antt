@@ -1,17 +1,16 @@
 -- The parts that are put together for a meaning are those of a spelling by the row, and mean it where anything of the
 -- row does.
-use Rattle.std.specs.Prelude.{◌≡◌, refl, ◌⊎◌, ℕ, ◌+◌, ◌*◌, ◌/◌, ◌%◌, ◌<◌, ◌≤◌, Bool, true, false, ◌||◌, List, [], ◌∷◌}
+use Rattle.std.specs.Prelude.{◌≡◌, refl, ℕ, ◌+◌, ◌*◌, ◌/◌, ◌%◌, ◌<◌, ◌≤◌, Bool, true, false, ◌||◌, List, [], ◌∷◌}
 use Rattle.std.specs.Prelude.{map, Option, Some, None, if◌then◌else◌}
-use Rattle.std.specs.Int.{cast_signed, cast_unsigned, w8}
+use Rattle.std.specs.Int.{cast_signed, w8}
 use Rattle.std.specs.List.{list_any}
 use Rattle.std.proofs.Common.{arith, ap, ap₂, sym, ◌∙◌, inl, inr, subst}
-use Rattle.std.proofs.lemmas.Int.{of_z-to_z}
 use Rattle.x86_operand.specs.declared.register.RegisterBank.{RegisterBank}
-use Rattle.x86_operand.specs.Kind.{Kind, WithoutModRM, InRegister, InMemory, VectorIndexed, is_vector, plain_kind}
+use Rattle.x86_operand.specs.Kind.{Kind, is_vector}
 use Rattle.x86_operand.specs.Meaning.{OperandMeaning, register, signed, unsigned, nothing}
-use Rattle.x86_address.specs.Place.{Place, Target, NoTarget, Number, At, IsOfKind, kind_of_target, IsPlace, target}
+use Rattle.x86_address.specs.Place.{Place, Target, NoTarget, IsOfKind, IsPlace, target}
 use Rattle.x86_address.specs.Shortest.{shortest, x_of, b_of}
-use Rattle.x86_address.specs.Shortest.Lemmas.{kind_of_target-target, names-shortest, IsSpellable-target, plain-in_banks}
+use Rattle.x86_address.specs.Shortest.Lemmas.{kind_of_target-target, names-shortest, IsSpellable-target}
 use Rattle.vex_rows.specs.Row.{Among}
 use Rattle.vex_forms.specs.declared.slot.Slot.{Slot}
 use Rattle.vex_forms.specs.declared.slot.Slot.TheVariants.{G, V, E, U8, I8, R4}
@@ -20,7 +19,7 @@ use Rattle.vex_forms.specs.WellFormed.{immediates}
 use Rattle.vex_forms.specs.Slots.{names_g, names_v, names_e, names_imm}
 use Rattle.vex_decode.specs.Spelling.{FitsGroup}
 use Rattle.vex_encode.specs.Standard.{operand_of_kind, number_of, imm_of, target_of, reg_for}
-use Rattle.vex_encode.specs.Standard.Lemmas.{First, first_operand, g_given, v_given, e_given, signed_again}
+use Rattle.vex_encode.specs.Standard.Lemmas.{first_operand, g_given, v_given, e_given, signed_again}
 
 -- no operand where no slot passes
 pub no_operand : (is : Slot → Bool) (slots : List Slot) (operands : List OperandMeaning) → list_any is slots ≡ false

@@ -1,43 +1,29 @@
 -- Rows that a meaning excludes at once have no standard bytes of it.
-use Rattle.std.specs.Prelude.{◌≡◌, refl, ℕ, ◌<◌, length, Bool, true, false, ◌&&◌, ◌==◌, List, [], ◌∷◌, ◌++◌, flat_map}
+use Rattle.std.specs.Prelude.{◌≡◌, refl, ℕ, ◌<◌, length, Bool, true, false, ◌&&◌, ◌==◌, List, [], ◌∷◌}
 use Rattle.std.specs.Prelude.{Option, Some, None, if◌then◌else◌}
-use Rattle.std.specs.List.{list_all, list_any}
-use Rattle.std.proofs.Common.{get_or, sym, ap, ◌∙◌, subst, eqb-true, arith, inl, inr}
+use Rattle.std.specs.List.{list_all}
+use Rattle.std.proofs.Common.{get_or, sym, ap, ◌∙◌, subst, eqb-true}
 use Rattle.x86_opcode.specs.declared.Opcode.{Opcode}
 use Rattle.x86_opcode.specs.Number.{opcode_number}
 use Rattle.x86_opcode.specs.Number.Lemmas.{opcode_number_injective}
-use Rattle.x86_operand.specs.declared.register.RegisterBank.{RegisterBank}
-use Rattle.x86_operand.specs.Instruction.{operand_at}
-use Rattle.x86_operand.specs.Kind.{Kind, WithoutModRM, InRegister, InMemory, VectorIndexed}
-use Rattle.x86_operand.specs.Meaning.{Meaning, OperandMeaning, register, signed, unsigned}
+use Rattle.x86_operand.specs.Kind.{Kind}
+use Rattle.x86_operand.specs.Meaning.{Meaning}
 use Rattle.x86_operand.specs.Meaning as meaning
 use Rattle.vex_rows.specs.declared.entry.Entry.{Entry}
 use Rattle.vex_rows.specs.declared.form.Form.{Form}
 use Rattle.vex_rows.specs.declared.form.Form.TheVariants as form_name
-use Rattle.vex_rows.specs.declared.form_row.BankRule.{BankRule}
-use Rattle.vex_rows.specs.declared.form_row.SlotRule.{SlotRule}
-use Rattle.vex_rows.specs.declared.form_row.SlotRule.TheVariants.{G, V, VInRegister, E, U8, I8, R4}
-use Rattle.vex_rows.specs.Few.{items}
 use Rattle.vex_rows.specs.FormRows.{form_row}
 use Rattle.vex_rows.specs.Groups.{groups}
 use Rattle.vex_rows.specs.Rules.{allows}
-use Rattle.vex_rows.specs.Row.{Row, Among, IsRow, rows, exists, mark_of, opcode_of, row_at, group_opcode, is_memory}
-use Rattle.vex_rows.specs.Row.{choices, choices_of_kind, choices_of_l, choices_of_w, kinds_of, group_choices}
-use Rattle.vex_rows.specs.Table.{table}
-use Rattle.vex_rows.specs.Row.Lists.{both-parts, from-flat_map, from-map, from-list_all, among-flat_map, among-map}
-use Rattle.vex_rows.specs.Row.Lists.{among-filter, among_bits}
-use Rattle.vex_forms.specs.declared.slot.Slot.{Slot}
+use Rattle.vex_rows.specs.Row.{Row, Among, rows, exists, opcode_of, row_at, group_opcode, is_memory}
+use Rattle.vex_rows.specs.Row.{choices_of_kind, choices_of_l, kinds_of, group_choices}
+use Rattle.vex_rows.specs.Row.Lists.{both-parts, from-flat_map, from-map, from-list_all}
 use Rattle.vex_forms.specs.declared.slot.Slot.TheVariants as slot
-use Rattle.vex_forms.specs.Slots.{bank_at, bytes_at, slots, slots_at, size_at, size_of, index_bank}
 use Rattle.vex_forms.specs.Gives.{gives}
 use Rattle.vex_forms.specs.Layout.{kind_for, row_for, rules_allow}
-use Rattle.vex_encode.specs.Conditions.{CanGive, OperandFits, OperandsFit, PlacedFits}
 use Rattle.vex_encode.specs.Standard.{standard}
-use Rattle.vex_encode.specs.Encode.{standard_of, first, is_address}
-use Rattle.vex_encode.specs.Assembly.{IsRegisterOf}
-use Rattle.vex_encode.proofs.Conditions.{standard_is_some}
-use Rattle.vex_encode.proofs.Fitting.{fit_length}
-use Rattle.vex_encode.proofs.Entries.{made, kind_made, grouped, any_group}
+use Rattle.vex_encode.specs.Encode.{standard_of, first}
+use Rattle.vex_encode.proofs.Entries.{made, grouped, any_group}
 use Rattle.vex_encode.proofs.Search.{among_at, first_none}
 
 -- ---- rows that there are none of

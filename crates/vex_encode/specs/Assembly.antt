@@ -1,6 +1,5 @@
 -- Private functions alone cite what stands here.
 use Rattle.std.specs.Prelude.{◌≡◌, ℕ, ◌+◌, ◌*◌, ◌/◌, ◌%◌, ◌<◌, ◌==◌, Bool, true, false, List, [], ◌∷◌, unwrap_or}
-use Rattle.std.specs.Prelude.{if◌then◌else◌}
 use Rattle.x86_operand.specs.declared.register.RegisterBank.{RegisterBank}
 use Rattle.x86_operand.specs.Kind.{Kind, WithoutModRM, InRegister, InMemory, VectorIndexed}
 use Rattle.x86_operand.specs.Instruction.{operand_at}

@@ -1,6 +1,6 @@
 //! Whether a row can give an instruction: what it asks of the mark, the opcode, the size and each operand.
 
-ghost use Rattle.std.specs.Prelude.{◌≡◌, ◌↔◌, ◌≤◌, IsSome, IfSome, IsTrue};
+ghost use Rattle.std.specs.Prelude.{◌≡◌, ◌↔◌, IsSome, IfSome, IsTrue};
 ghost use Rattle.x86_operand.specs.Meaning.{operand_meaning};
 ghost use Rattle.vex_forms.specs.Layout.{chosen};
 ghost use Rattle.vex_forms.specs.Slots.{slots};

@@ -1,20 +1,18 @@
 -- Whatever parts of a row mean a meaning are made by some open choice.
-use Rattle.std.specs.Prelude.{◌≡◌, refl, ◌⊎◌, ℕ, zero, suc, ◌+◌, ◌-◌, ◌*◌, ◌%◌, ◌<◌, ◌≤◌, ◌==◌, Bool, true, false, not}
+use Rattle.std.specs.Prelude.{◌≡◌, refl, ◌⊎◌, ℕ, zero, suc, ◌+◌, ◌-◌, ◌*◌, ◌<◌, ◌≤◌, ◌==◌, Bool, true, false, not}
 use Rattle.std.specs.Prelude.{◌||◌, List, [], ◌∷◌, map, Option, Some, None, if◌then◌else◌}
-use Rattle.std.specs.Int.{cast_signed, cast_unsigned, w8}
 use Rattle.std.specs.List.{list_any}
 use Rattle.std.proofs.Common.{arith, ap, sym, ◌∙◌, inl, inr, subst}
-use Rattle.std.proofs.lemmas.Int.{of_z-to_z}
 use Rattle.x86_opcode.specs.declared.Opcode.{Opcode}
 use Rattle.x86_operand.specs.declared.register.RegisterBank.{RegisterBank}
 use Rattle.x86_operand.specs.Kind.{Kind, WithoutModRM, InRegister, InMemory, VectorIndexed, is_vector, plain_kind}
 use Rattle.x86_operand.specs.Kind.{memory_kind}
-use Rattle.x86_operand.specs.Meaning.{OperandMeaning, nothing, Meaning}
+use Rattle.x86_operand.specs.Meaning.{OperandMeaning, Meaning}
 use Rattle.x86_address.specs.Bytes.{bit}
 use Rattle.x86_address.specs.Place.{Place, NoPlace, Direct, Based, RipBased, Scaled, Baseless, kind_of, Target}
-use Rattle.x86_address.specs.Place.{NoTarget, Number, At, kind_of_target, target}
+use Rattle.x86_address.specs.Place.{target}
 use Rattle.x86_address.specs.Shortest.{is_upper}
-use Rattle.x86_address.specs.Shortest.Lemmas.{kind_of_target-target, plain-in_banks, is_upper-field}
+use Rattle.x86_address.specs.Shortest.Lemmas.{kind_of_target-target, is_upper-field}
 use Rattle.vex_rows.specs.FormRows.{gathers}
 use Rattle.vex_rows.specs.Steps.{steps}
 use Rattle.vex_rows.specs.Row.{Row, Among, IsRow, has_groups, has_imm, group_choices}
@@ -24,7 +22,7 @@ use Rattle.vex_forms.specs.declared.slot.Slot.{Slot}
 use Rattle.vex_forms.specs.declared.slot.Slot.TheVariants.{G, V, E, U8, I8, R4}
 use Rattle.vex_forms.specs.declared.slot.VvvvRule.{VvvvRule}
 use Rattle.vex_forms.specs.declared.slot.VvvvRule.TheVariants.{Named, Zero, Free}
-use Rattle.vex_forms.specs.Gives.{gives, slot_operand, target_operand}
+use Rattle.vex_forms.specs.Gives.{gives, slot_operand}
 use Rattle.vex_forms.specs.Slots.{slots, index_bank, names_g, names_v, names_e, names_imm, v_rule}
 use Rattle.vex_decode.specs.Spelling.{Syntax, IsSyntax, meant, FitsGroup, FitsReg, FitsRule, FitsImm}
 use Rattle.vex_decode.specs.Fields as fields

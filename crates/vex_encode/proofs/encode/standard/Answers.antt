@@ -1,7 +1,7 @@
 -- A row that can give the meaning gives its standard spelling; no other row does.
 use Rattle.std.proofs.Common.{refl, sym, subst, ap, ◌∙◌}
 use Rattle.vex_rows.specs.Row.{IsRow, exists}
-use Rattle.vex_forms.specs.Layout.{chosen, row_for}
+use Rattle.vex_forms.specs.Layout.{chosen}
 use Rattle.vex_forms.specs.Slots.{index_bank}
 use Rattle.vex_encode.specs.Assembly.{IsPlaced}
 use Rattle.vex_encode.specs.Encode.{standard_of}
