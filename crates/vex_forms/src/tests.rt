@@ -2,9 +2,8 @@
 //! docs/DIFFERENCES.md names.
 
 use crate::wanted::{Asked, lines, wanted};
-use crate::{Kind, laws, layout};
+use crate::{Choice, Kind, laws, layout};
 use std::process::Abort;
-use std::test::Fail;
 use vex_rows::{Entry, Form, Map, Pp, Rule};
 use x86_operand::Opcode;
 
@@ -67,7 +66,7 @@ fn every_form_is_laid_out_as_the_manual_has_it(rt: HostRuntime) {
 }
 
 #[test]
-fn rows_and_modrm_bytes_have_kinds(rt: HostRuntime) -> Result<(), Fail> {
+fn rows_and_modrm_bytes_have_kinds(rt: HostRuntime) {
     let sum = entry(Form::G_V_E_xyLmm, Opcode::VADDPS);
     let gather = entry(Form::G_ExyL_V_xyLmm, Opcode::VPGATHERDD);
     let nothing = entry(Form::Nothing, Opcode::VZEROUPPER);
@@ -87,12 +86,11 @@ fn rows_and_modrm_bytes_have_kinds(rt: HostRuntime) -> Result<(), Fail> {
         (&gather, true, Kind::Vector),
         (&nothing, false, Kind::WithoutModRM),
     ] {
-        let row = layout(entry, false, false, memory, 0).ok_or("a row")?;
-        assert_eq!(rt; Kind::of(&row, memory), kind);
+        let choice = Choice::of(entry, false, false, memory, 0);
+        assert_eq!(rt; Kind::of(&choice), kind);
         assert_eq!(rt; kind.is_memory(), memory);
         assert_eq!(rt; kind.is_vector(), kind == Kind::Vector);
     }
-    Ok(())
 }
 
 #[test]
