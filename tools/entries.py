@@ -164,7 +164,7 @@ def cells_code(lists):
 
 
 def cells_specs(lists):
-    names = ", ".join(name_of(*key) for key in lists)
+    names = [name_of(*key) for key in lists]
     lines = [
         f"-- The cells of the direct index, {NOTE}.",
         "use Rattle.std.specs.Prelude.{ℕ, List" + (", []" if len(lists) < 12 else "") + "}",
@@ -172,7 +172,10 @@ def cells_specs(lists):
         "use Rattle.vex_rows.specs.declared.key.Map.TheVariants.{" + ", ".join(MAPS) + "}",
         "use Rattle.vex_rows.specs.declared.key.Pp.{Pp}",
         "use Rattle.vex_rows.specs.declared.key.Pp.TheVariants.{" + ", ".join(PREFIXES) + "}",
-        "use Rattle.vex_rows.specs.declared.cells.TheConstants.{" + names + "}",
+        *(
+            "use Rattle.vex_rows.specs.declared.cells.TheConstants.{" + ", ".join(names[i : i + 4]) + "}"
+            for i in range(0, len(names), 4)
+        ),
         "",
         "-- the cells of an opcode map and an implied prefix, none where it has no entries",
         "unfoldable pub cells_of : Map → Pp → List ℕ",

@@ -35,7 +35,9 @@ letter_no_blank b h = grind arith
 
 letters_plain : (bs : List ℕ) → is_name bs ≡ true → each not_blank bs ≡ true
 letters_plain [] h = refl
-letters_plain (b ∷ bs) h = let parts = and_parts _ _ h in both _ _ (letter_no_blank b parts.0) (letters_plain bs parts.1)
+letters_plain (b ∷ bs) h =
+    let parts = and_parts _ _ h in
+    both _ _ (letter_no_blank b parts.0) (letters_plain bs parts.1)
 
 head_word : (evex : Bool) (o : Opcode) → IsWord (mark_text evex ++ opcode_name o)
 head_word true o = record { filled = refl; plain = letters_plain (opcode_name o) (name_plain o) }

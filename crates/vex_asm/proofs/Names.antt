@@ -55,7 +55,9 @@ ascii_letter b h = grind arith
 
 ascii_from_name : (bs : List ℕ) → is_name bs ≡ true → IsAscii bs
 ascii_from_name [] h = IsAscii-nil
-ascii_from_name (b ∷ bs) h = let parts = and_parts _ _ h in IsAscii-cons b bs (ascii_letter b parts.0) (ascii_from_name bs parts.1)
+ascii_from_name (b ∷ bs) h =
+    let parts = and_parts _ _ h in
+    IsAscii-cons b bs (ascii_letter b parts.0) (ascii_from_name bs parts.1)
 
 -- the name of an opcode is UTF-8
 pub name_utf8 : (o : Opcode) (name : List ℕ) → opcode_name o ≡ name → IsUtf8 name

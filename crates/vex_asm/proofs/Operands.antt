@@ -153,7 +153,9 @@ text-few ws found e = let parts = few-found _ _ e in (text-rest_of ws found part
 
 pub few-text : (os : List OperandMeaning) (size : Option ℕ) → AllByRecursion IsOperand os → IsSize size → length os ≤ 4
     → few (rest_of (map operand_text os ++ decimal (unwrap_or size 0) ∷ [])) ≡ Some (os, size)
-few-text os size h k n = let small : nat_le (length os) 4 ≡ true = grind arith in rw (rest_of-text os size h k, small) refl
+few-text os size h k n =
+    let small : nat_le (length os) 4 ≡ true = grind arith in
+    rw (rest_of-text os size h k, small) refl
 
 -- the steps of the loop over the operands
 regroup : (front : List OperandMeaning) (o : OperandMeaning) (read : Option (List OperandMeaning × Option ℕ))

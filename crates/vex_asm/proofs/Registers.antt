@@ -18,7 +18,9 @@ small_enough n m h = grind arith
 -- a byte is read from its decimal text
 pub byte_of-decimal : (n : ℕ) → n ≤ 255 → byte_of (decimal n) ≡ Some n
 unfolding byte_of
-byte_of-decimal n h = let small : nat_lt n 256 ≡ true = grind arith in rw (number_of-decimal n (omega arith), small) refl
+byte_of-decimal n h =
+    let small : nat_lt n 256 ≡ true = grind arith in
+    rw (number_of-decimal n (omega arith), small) refl
 
 -- what a byte is read from is its decimal text
 pub decimal-byte_of : (bs : List ℕ) (n : ℕ) → byte_of bs ≡ Some n → (bs ≡ decimal n) × (n ≤ 255)

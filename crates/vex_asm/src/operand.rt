@@ -5,7 +5,7 @@ ghost use Rattle.x86_operand.specs.Meaning.{operand_meaning};
 ghost use Rattle.vex_asm.specs.Parsed.{bank_of, lettered_of, register_of, cut, base_of, scaled_of, index_of};
 ghost use Rattle.vex_asm.specs.Parsed.{address_of, begun_of, operand_of, size_of};
 
-use crate::number::{byte, displacement, number, signed_byte};
+use crate::number::{byte, displacement, signed_byte};
 use x86_operand::{Address, Index, MemoryAccessSize, Operand, RegSpec, RegisterBank};
 
 // The bank of a letter.

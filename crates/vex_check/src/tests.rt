@@ -1,6 +1,6 @@
 //! What runs of instructions need, at worked bytes.
 
-use crate::{First, Needs, RunCause, RunFault, accepts, check};
+use crate::{Needs, RunCause, RunFault, accepts, check};
 use std::test::Fail;
 use x86_opcode::Opcode;
 use x86_operand::DecodeError;

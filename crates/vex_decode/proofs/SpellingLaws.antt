@@ -46,7 +46,9 @@ one_meaning bytes m n p q = (one_beginning bytes bytes [] [] m n p q refl).meani
 
 pub reading_is_spelling : ReadingIsSpelling
 reading_is_spelling bytes row parts rest is = (
-  λ e. let was = walk-written bytes is (row, parts) rest e in record { is_row = was.is_row; fits = was.is; written = was.written },
+  λ e.
+      let was = walk-written bytes is (row, parts) rest e in
+      record { is_row = was.is_row; fits = was.is; written = was.written },
   λ at. ap walk at.written ∙ walk-again row parts rest at.is_row at.fits,
 )
 

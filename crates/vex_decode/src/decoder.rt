@@ -37,7 +37,8 @@ pub trait Decoder {
     /// The settings that it decodes by.
     ghost settings: { Self → List Bool };
 
-    /// Decodes the beginning of a slice.
+    /// Decodes the instruction at the front of a slice, and answers it with the number of its bytes, 3 to 11. The errors
+    /// are those above: `ExhaustedInput` comes exactly where a byte that a step reads isn't there.
     fn decode_slice(&self, bytes: &[u8]) -> Result<Instruction, DecodeError>
         // Exactly where a permitted spelling begins the bytes.
         ensures begun { IsOk result ↔ (blocked (settings self.now) bytes.now ≡ None) }
@@ -50,7 +51,8 @@ pub trait Decoder {
         // The error is the one that blocks the bytes.
         ensures refused { IfErr result (λ error. (n : ℕ) × (blocked (settings self.now) bytes.now ≡ Some (error, n))) };
 
-    /// Decodes from a reader.
+    /// Decodes the instruction that a reader gives, and answers it with the number of bytes taken, 3 to 11. The errors are
+    /// those above. Where the reader tells a permitted spelling and refuses no byte of it, the answer is `Ok`.
     fn decode<R: Reader>(&self, words: &mut R) -> Result<Instruction, DecodeError>
         ensures decoded { IfOk result
             (TakesInstruction (settings self.now) (marked (R.state words.old)) (R.state words.new)) }
@@ -60,7 +62,8 @@ pub trait Decoder {
         ensures slice { IfErr result
             (BlocksSlice (settings self.now) (marked (R.state words.old)) (R.state words.new)) };
 
-    /// Decodes from a reader into an instruction, whatever that held. After an error it is the default one.
+    /// Decodes as `decode` does, and writes what it would answer to an instruction, whatever that held. After an error
+    /// the instruction is the default one.
     fn decode_into<R: Reader>(
         &self,
         instruction: &mut Instruction,
@@ -100,7 +103,7 @@ pub trait Decoder {
         ensures kept { IsSome (S.state sink.old).told → 11 ≤ (S.state sink.old).room → IsSome (S.state sink.new).told };
 }
 
-/// The instruction that a reader gives, with its notes, whatever it held. It is written in place.
+/// Writes the instruction that a reader gives in the place of what `instruction` held, and its notes to the sink.
 fn decode_noting<R: Reader, S: DescriptionSink<FieldDescription>>(
     settings: &InstDecoder,
     words: &mut R,

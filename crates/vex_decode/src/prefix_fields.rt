@@ -1,6 +1,6 @@
 //! The fields of a VEX prefix in its bytes, both ways (Intel SDM volume 2, sections 2.3.5 and 2.3.6).
 
-ghost use Rattle.std.specs.Prelude.{◌≡◌, ◌<◌, ◌≤◌, ◌/◌, ◌%◌, ◌^◌, ◌-◌, ◌==◌, length};
+ghost use Rattle.std.specs.Prelude.{◌≡◌, ◌<◌, ◌≤◌, ◌/◌, ◌%◌, ◌-◌, ◌==◌, length};
 ghost use Rattle.vex_forms.specs.Fields.{fields_of};
 ghost use Rattle.vex_decode.specs.Fields.{C4, C5, low_byte, prefix_bytes, fits_two_bytes, shortest_form};
 ghost use Rattle.vex_decode.specs.Walk.{pp_of, map_of, fields_of_two, fields_of_three};

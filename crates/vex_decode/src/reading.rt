@@ -100,8 +100,7 @@ fn find_entry(prefix: &Prefix, byte: u8) -> Result<Entry, DecodeError>
     }
 }
 
-/// The instruction from the opcode byte on, whose first bit is `start`. This and what calls it write to an instruction
-/// that nothing was written to.
+/// Writes the instruction from the opcode byte on, whose first bit is `start`, in the place of what `instruction` held.
 fn read_from_opcode<R: Reader, S: DescriptionSink<FieldDescription>>(
     prefix: &Prefix,
     start: u32,

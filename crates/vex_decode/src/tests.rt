@@ -2,6 +2,7 @@
 
 use crate::{Decoder, shortest_prefix, three_byte_vex, two_byte_vex};
 use std::process::Abort;
+use std::test::Fail;
 use vex_rows::{Map, Pp, Prefix};
 use x86_operand::DecodeError::{ExhaustedInput, InvalidOpcode, InvalidOperand, Outside};
 use x86_operand::InnerDescription::{Boundary, Misc, RegisterNumber};
@@ -37,13 +38,17 @@ fn length(answer: &Result<Instruction, DecodeError>) -> Result<u8, DecodeError> 
 }
 
 #[test]
-fn a_reader_is_left_after_the_bytes_taken(rt: HostRuntime) {
+fn a_reader_is_left_after_the_bytes_taken(rt: HostRuntime) -> Result<(), Fail> {
     let decoder = InstDecoder::default();
     let mut words = U8Reader::new(&[0xC5, 0xF8, 0x77, 0xFF]);
-    assert_eq!(rt; length(&decoder.decode(&mut words)), Ok(3));
+    let decoded = decoder
+        .decode(&mut words)
+        .map_err(|_| "the first is decoded")?;
+    assert_eq!(rt; (decoded.opcode(), decoded.len()), (Opcode::VZEROUPPER, 3));
     assert_eq!(rt; (words.offset(), words.total_offset()), (3, 3));
     assert_eq!(rt; length(&decoder.decode(&mut words)), Err(Outside));
     assert_eq!(rt; (words.offset(), words.total_offset()), (1, 4));
+    Ok(())
 }
 
 #[test]
@@ -118,12 +123,20 @@ fn is_exhausted(
     assert_eq!(rt; taken, call);
 }
 
-/// The reader refuses at each call in turn, of a decode without notes and of one with them.
+/// The reader refuses at each call in turn, of each call that decodes from it.
 fn refused_at_each_call(rt: &impl Abort, bytes: &[u8]) {
     let decoder = InstDecoder::default();
     for place in 0..bytes.len() {
         let call = place as u64;
         let failing = [call];
+        let mut words = FailReader::new(bytes, &failing);
+        assert_eq!(rt;
+            length(&decoder.decode(&mut words)),
+            Err(ExhaustedInput),
+            "at call {call}"
+        );
+        assert_eq!(rt; words.total_offset(), call);
+
         let mut words = FailReader::new(bytes, &failing);
         let mut instruction = other();
         let answer = decoder.decode_into(&mut instruction, &mut words);
@@ -221,6 +234,19 @@ fn the_notes_are_those_on_the_bytes_taken(rt: HostRuntime) {
 }
 
 #[test]
+fn a_prefix_is_noted_where_no_entry_is_found(rt: HostRuntime) {
+    let prefix = [
+        (8, 9, 8, Misc(Note::P0)),
+        (11, 14, 10, register_0()),
+        (10, 10, 9, Misc(Note::R1)),
+        (15, 15, 9, Misc(Note::W1)),
+        (23, 23, 23, Boundary(Note::PrefixEnd)),
+    ];
+    has_notes(&rt, &[0xC5, 0xFC, 0x01], &prefix);
+    has_notes(&rt, &[0xC5, 0xFC], &prefix);
+}
+
+#[test]
 fn a_prefix_is_decoded_after_its_first_byte(rt: HostRuntime) {
     let mut instruction = other();
     let mut words = U8Reader::new(&VZEROUPPER);
@@ -234,6 +260,18 @@ fn a_prefix_is_decoded_after_its_first_byte(rt: HostRuntime) {
     assert_eq!(rt;
         (instruction.opcode(), instruction.len()),
         (Opcode::VZEROUPPER, 3)
+    );
+
+    let mut words = FailReader::new(&VMOVAPS, &[]);
+    let first = words.next();
+    assert!(rt; first.is_ok());
+    assert_eq!(rt;
+        three_byte_vex(&mut words, &mut instruction, &mut NullSink),
+        Ok(())
+    );
+    assert_eq!(rt;
+        (instruction.opcode(), instruction.len()),
+        (Opcode::VMOVAPS, 5)
     );
 
     let mut words = FailReader::new(&VMOVAPS, &[4]);

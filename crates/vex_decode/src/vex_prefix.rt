@@ -28,7 +28,6 @@ pub fn two_byte_vex<R: Reader, S: DescriptionSink<FieldDescription>>(
     ensures noted { NotesRest 0xC5 (R.state words.old) (R.state words.new) (S.state sink.old) (S.state sink.new) }
     ensures kept { IsSome (S.state sink.old).told → 11 ≤ (S.state sink.old).room → IsSome (S.state sink.new).told }
 {
-    *instruction = Instruction::default();
     match read_after_two(words, sink, instruction) {
         Ok(()) => {
             // At most 11.
@@ -56,7 +55,6 @@ pub fn three_byte_vex<R: Reader, S: DescriptionSink<FieldDescription>>(
     ensures noted { NotesRest 0xC4 (R.state words.old) (R.state words.new) (S.state sink.old) (S.state sink.new) }
     ensures kept { IsSome (S.state sink.old).told → 11 ≤ (S.state sink.old).room → IsSome (S.state sink.new).told }
 {
-    *instruction = Instruction::default();
     match read_after_three(words, sink, instruction) {
         Ok(()) => {
             // At most 11.

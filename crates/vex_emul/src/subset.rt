@@ -103,13 +103,7 @@ impl<'a> Machine<'a> {
     {
         match operand {
             Operand::Register { reg } => vector_operand(wide, reg),
-            Operand::MemDeref { base } => self.memory_operand(Address {
-                base: Some(base),
-                index: None,
-                disp: 0,
-            }),
-            Operand::Memory { address } => self.memory_operand(address),
-            _ => None,
+            _ => self.memory_operand(operand.address()?),
         }
     }
 
@@ -187,16 +181,7 @@ impl<'a> Machine<'a> {
     {
         match dest {
             Operand::Register { reg } => self.move_to(reg, source),
-            Operand::MemDeref { base } => self.move_from(
-                Address {
-                    base: Some(base),
-                    index: None,
-                    disp: 0,
-                },
-                source,
-            ),
-            Operand::Memory { address } => self.move_from(address, source),
-            _ => None,
+            _ => self.move_from(dest.address()?, source),
         }
     }
 

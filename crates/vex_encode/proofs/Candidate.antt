@@ -7,7 +7,7 @@ use Rattle.std.specs.List.{list_any}
 use Rattle.std.proofs.Common.{arith, ap, ap₂, sym, ◌∙◌, inl, inr, subst}
 use Rattle.x86_operand.specs.declared.register.RegisterBank.{RegisterBank}
 use Rattle.x86_operand.specs.Kind.{Kind, is_vector}
-use Rattle.x86_operand.specs.Meaning.{OperandMeaning, register, signed, unsigned, nothing}
+use Rattle.x86_operand.specs.Meaning.{number_of, OperandMeaning, register, signed, unsigned, nothing}
 use Rattle.x86_address.specs.Place.{Place, Target, NoTarget, IsOfKind, IsPlace, target}
 use Rattle.x86_address.specs.Shortest.{shortest, x_of, b_of}
 use Rattle.x86_address.specs.Shortest.Lemmas.{kind_of_target-target, names-shortest, IsSpellable-target}
@@ -18,7 +18,7 @@ use Rattle.vex_forms.specs.Gives.{slot_operand, target_operand}
 use Rattle.vex_forms.specs.WellFormed.{immediates}
 use Rattle.vex_forms.specs.Slots.{names_g, names_v, names_e, names_imm}
 use Rattle.vex_decode.specs.Spelling.{FitsGroup}
-use Rattle.vex_encode.specs.Standard.{operand_of_kind, number_of, imm_of, target_of, reg_for}
+use Rattle.vex_encode.specs.Standard.{operand_of_kind, imm_of, target_of, reg_for}
 use Rattle.vex_encode.specs.Standard.Lemmas.{first_operand, g_given, v_given, e_given, signed_again}
 
 -- no operand where no slot passes

@@ -14,7 +14,7 @@ use Rattle.x86_operand.specs.declared.address.Address.{Address}
 use Rattle.x86_operand.specs.declared.address.Index.{Index}
 use Rattle.x86_operand.specs.Register.{Register}
 use Rattle.x86_operand.specs.Kind.{Kind, WithoutModRM, InRegister, InMemory, VectorIndexed, is_vector, plain_kind}
-use Rattle.x86_operand.specs.Meaning.{OperandMeaning, register, signed, unsigned, memory, Meaning}
+use Rattle.x86_operand.specs.Meaning.{number_of, OperandMeaning, register, signed, unsigned, memory, Meaning}
 use Rattle.x86_operand.specs.Same.{same_meaning}
 use Rattle.x86_operand.specs.Same.Lemmas.{same_meaning_refl}
 use Rattle.x86_address.specs.Place.{Place, Base, NoBase, Rip, Numbered, PlainAddress, Target, Number, At, IsOfKind}
@@ -37,7 +37,7 @@ use Rattle.vex_forms.specs.WellFormed.{immediates}
 use Rattle.vex_forms.specs.Slots.Lemmas.{sound_row, distinct, free}
 use Rattle.vex_forms.specs.Layout.Lemmas.{kinds, is_memory-memory_kind}
 use Rattle.vex_decode.specs.Spelling.{Syntax, meant, IsSyntax}
-use Rattle.vex_encode.specs.Standard.{operand_of_kind, number_of, imm_of, target_of, reg_for, candidate, is_placed}
+use Rattle.vex_encode.specs.Standard.{operand_of_kind, imm_of, target_of, reg_for, candidate, is_placed}
 use Rattle.vex_encode.specs.Standard.{is_given, standard}
 use Rattle.vex_encode.specs.Conditions.{RegisterFits, SlotBaseFits, SlotIndexFits, AddressFits, PlacedFits, OperandFits}
 use Rattle.vex_encode.specs.Conditions.{OperandsFit, CanGive}
@@ -89,7 +89,13 @@ module _ (index_bank : RegisterBank) (kind : Kind) (r v reg : ℕ) (place : Plac
       → OperandFits kind index_bank slot (slot_operand index_bank r v reg (target (is_vector kind) place x b) imm slot)
   operand_given (G bank) alone = record { bank = refl; num = omega arith }
   operand_given (V bank) alone = record { bank = refl; num = v_fits }
-  operand_given (E bank) alone = placed_given kind index_bank bank (target (is_vector kind) place x b) (IsSpellable-target (is_vector kind) place x b is_place is_kind.sib) (kind_of_target-target (is_vector kind) place x b ∙ is_kind.plain) (λ k. let never = alone k in cc)
+  operand_given (E bank) alone =
+      let spellable = IsSpellable-target (is_vector kind) place x b is_place is_kind.sib in
+      let kinds = kind_of_target-target (is_vector kind) place x b ∙ is_kind.plain in
+      placed_given kind index_bank bank (target (is_vector kind) place x b) spellable kinds with_e
+    where
+      with_e : kind ≢ WithoutModRM
+      with_e k = let never = alone k in cc
   operand_given U8 alone = omega arith
   operand_given I8 alone = search rules
   operand_given (R4 bank) alone = record { bank = refl; num = omega arith }
@@ -126,7 +132,9 @@ base_named (Some reg) index (inr fits) = subst (λ (reg : Register). IsBase (bas
 base_alone : (base : Option Register) (index : Option Index) → SlotBaseFits base index → plain_base base ≡ Rip
     → plain_index index ≡ None
 base_alone None index fits h = cc
-base_alone (Some reg) index (inl fits) h = let never : Numbered reg.num ≡ Rip = subst (λ bank. base_in bank reg.num ≡ Rip) fits.bank h in cc
+base_alone (Some reg) index (inl fits) h =
+    let never : Numbered reg.num ≡ Rip = subst (λ bank. base_in bank reg.num ≡ Rip) fits.bank h in
+    cc
 base_alone (Some reg) index (inr fits) h = ap plain_index fits.1
 
 index_again : (vector : Bool) (bank : RegisterBank) (index : Option Index) → SlotIndexFits vector bank index
@@ -139,7 +147,9 @@ index_again vector bank (Some index) fits =
 index_named : (vector : Bool) (bank : RegisterBank) (index : Option Index) → SlotIndexFits vector bank index
     → IsIndex vector (plain_index index)
 index_named vector bank None fits = fits
-index_named vector bank (Some index) fits = let power = power_of_scale index.scale fits.2 in (omega arith, fits.1, power.0, power.1, power.2)
+index_named vector bank (Some index) fits =
+    let power = power_of_scale index.scale fits.2 in
+    (omega arith, fits.1, power.0, power.1, power.2)
 
 address_again : (vector : Bool) (index_bank : RegisterBank) (a : Address) → AddressFits vector index_bank a
     → in_banks index_bank (plain a) ≡ a
@@ -195,7 +205,9 @@ counted : (is : Slot → Bool) (slot : Slot) (operand : OperandMeaning) (slots :
 counted is slot operand [] [] p h = absurd p
 counted is slot operand [] (o ∷ operands) p h = absurd p
 counted is slot operand (s ∷ slots) [] p h = absurd p
-counted is slot operand (s ∷ slots) (o ∷ operands) (inl p) h = let passes : is s ≡ true = ap is (sym p.0) ∙ h in rw (count_cons is s slots, passes) (omega arith)
+counted is slot operand (s ∷ slots) (o ∷ operands) (inl p) h =
+    let passes : is s ≡ true = ap is (sym p.0) ∙ h in
+    rw (count_cons is s slots, passes) (omega arith)
 counted is slot operand (s ∷ slots) (o ∷ operands) (inr p) h =
     rw (count_cons is s slots) (more (is s) (counted is slot operand slots operands p h)) where
       more : (b : Bool) → 1 ≤ count_by is slots → 1 ≤ (if b then 1 else 0) + count_by is slots
@@ -209,7 +221,9 @@ found : (is : Slot → Bool) (slot : Slot) (operand : OperandMeaning) (slots : L
 found is slot operand [] [] few p h = absurd p
 found is slot operand [] (o ∷ operands) few p h = absurd p
 found is slot operand (s ∷ slots) [] few p h = absurd p
-found is slot operand (s ∷ slots) (o ∷ operands) few (inl p) h = let passes : is s ≡ true = ap is (sym p.0) ∙ h in rw passes (sym p.1)
+found is slot operand (s ∷ slots) (o ∷ operands) few (inl p) h =
+    let passes : is s ≡ true = ap is (sym p.0) ∙ h in
+    rw passes (sym p.1)
 found is slot operand (s ∷ slots) (o ∷ operands) few (inr p) h =
     by (is s) (rw (count_cons is s slots) at few) (counted is slot operand slots operands p h)
     (λ k. found is slot operand slots operands k p h) where
@@ -225,7 +239,9 @@ any_paired : (is : Slot → Bool) (slot : Slot) (operand : OperandMeaning) (slot
 any_paired is slot operand [] [] p h = absurd p
 any_paired is slot operand [] (o ∷ operands) p h = absurd p
 any_paired is slot operand (s ∷ slots) [] p h = absurd p
-any_paired is slot operand (s ∷ slots) (o ∷ operands) (inl p) h = let passes : is s ≡ true = ap is (sym p.0) ∙ h in rw passes refl
+any_paired is slot operand (s ∷ slots) (o ∷ operands) (inl p) h =
+    let passes : is s ≡ true = ap is (sym p.0) ∙ h in
+    rw passes refl
 any_paired is slot operand (s ∷ slots) (o ∷ operands) (inr p) h =
     more (is s) (list_any is slots) (any_paired is slot operand slots operands p h) where
       more : (b c : Bool) → c ≡ true → (b || c) ≡ true
@@ -332,7 +348,9 @@ grouped false any h k = refl
 -- a kind with ModRM isn't the kind without
 with_modrm : (vector modrm : Bool) (kind : Kind) → Among kind (kinds vector modrm) → kind ≡ WithoutModRM → modrm ≡ false
 with_modrm vector true kind (inl e) k = let never : InRegister ≡ WithoutModRM = sym e ∙ k in cc
-with_modrm vector true kind (inr (inl e)) k = let never : true ≡ false = sym (is_memory-memory_kind vector) ∙ ap is_memory (sym e ∙ k) in cc
+with_modrm vector true kind (inr (inl e)) k =
+    let never : true ≡ false = sym (is_memory-memory_kind vector) ∙ ap is_memory (sym e ∙ k) in
+    cc
 with_modrm vector true kind (inr (inr e)) k = absurd e
 with_modrm vector false kind m k = refl
 
@@ -380,7 +398,9 @@ module _ (row : Row) (m : Meaning) (is_row : IsRow row) where
   there_fits there = by (standard row m) refl there where
     by : (o : Option (List ℕ)) → standard row m ≡ o → IsSome o → CanGive row m
     by None e h = cc
-    by (Some bytes) e h = let by = standard_spells row m is_row bytes e in subst (λ m. CanGive row m) (sym by.means) (given_fits by.parts by.fits)
+    by (Some bytes) e h =
+        let by = standard_spells row m is_row bytes e in
+        subst (λ m. CanGive row m) (sym by.means) (given_fits by.parts by.fits)
 
   -- what fits the row is meant by the parts that are put together for it
   pub fits_meant : CanGive row m → meant row (candidate row m) ≡ m

@@ -44,6 +44,9 @@ use Rattle.vex_encode.proofs.Conditions.{fits_given, standard_is_some}
 use Rattle.vex_encode.proofs.Standard.{kind_asked, bytes_length, imm_length}
 use Rattle.vex_encode.proofs.Search.{NoLonger, first-append, first_of-none, first_of_two, first_none, best-first_of_two}
 
+true_not_false : true ≡ false → ⊥
+true_not_false h = cc
+
 -- ---- the operand E of rows of one entry and one kind stands at the same slot
 
 -- which slots name it
@@ -254,7 +257,9 @@ with_e form row h = other_part (steps form).modrm (list_any names_e (slots_of fo
 memory_with_modrm : (vector modrm : Bool) (kind : Kind) → Among kind (kinds vector modrm) → is_memory kind ≡ true
     → modrm ≡ true
 memory_with_modrm vector true kind m h = refl
-memory_with_modrm vector false kind (inl e) h = let never : is_memory WithoutModRM ≡ true = ap is_memory (sym e) ∙ h in cc
+memory_with_modrm vector false kind (inl e) h =
+    let never : is_memory WithoutModRM ≡ true = ap is_memory (sym e) ∙ h in
+    cc
 memory_with_modrm vector false kind (inr m) h = absurd m
 
 -- the meaning of the parts that are put together
@@ -379,10 +384,13 @@ first_of_l m entry w l memory is = by (steps entry.form).modrm refl memory is wh
       (if modrm then (if memory then memory_kind (gathers entry.form) else InRegister) else WithoutModRM))
   by true h true is =
       first_of_two m (choices_of_kind entry w l) InRegister (memory_kind (gathers entry.form))
-      ∙ ap (λ o. first_of o (first m (choices_of_kind entry w l (memory_kind (gathers entry.form))))) (passed_over m entry w l InRegister (rw h (inl refl)) (λ k. let never : true ≡ false = is ∙ k in cc))
+      ∙ ap (λ o. first_of o (first m (choices_of_kind entry w l (memory_kind (gathers entry.form)))))
+      (passed_over m entry w l InRegister (rw h (inl refl)) (λ k. true_not_false (is ∙ k)))
   by true h false is =
       first_of_two m (choices_of_kind entry w l) InRegister (memory_kind (gathers entry.form))
-      ∙ ap (first_of (first m (choices_of_kind entry w l InRegister))) (passed_over m entry w l (memory_kind (gathers entry.form)) (rw h (inr (inl refl))) (λ k. let never : false ≡ true = is ∙ k ∙ is_memory-memory_kind (gathers entry.form) in cc))
+      ∙ ap (first_of (first m (choices_of_kind entry w l InRegister)))
+      (passed_over m entry w l (memory_kind (gathers entry.form)) (rw h (inr (inl refl)))
+      (λ k. true_not_false (sym (is ∙ k ∙ is_memory-memory_kind (gathers entry.form)))))
       ∙ first_of-none _
   by false h memory is = first-append m (choices_of_kind entry w l WithoutModRM) [] ∙ first_of-none _
 
@@ -476,7 +484,7 @@ no_row entry w l memory group m is never = by (exists (row_for entry w l memory 
       let kind : is_memory (kind_for entry.form memory) ≡ false =
       ap (λ modrm. is_memory (if modrm then (if memory then memory_kind (gathers entry.form) else InRegister)
       else WithoutModRM)) parts.0 in
-      sym (other_kind (row_for entry w l memory group) m among (λ k. let wrong : true ≡ false = sym parts.1 ∙ is ∙ k ∙ kind in cc))
+      sym (other_kind (row_for entry w l memory group) m among (λ k. true_not_false (sym parts.1 ∙ is ∙ k ∙ kind)))
 
 -- ---- a choice that is one
 

@@ -45,7 +45,10 @@ module _ (kind : Kind) (index_bank : RegisterBank) where
   fit_parts [] operands i s h e fit = absurd (omega arith)
   fit_parts (x ∷ slots) [] i s h e fit = absurd (omega arith)
   fit_parts (x ∷ slots) (o ∷ operands) zero s h e fit = fit
-  fit_parts (x ∷ slots) (o ∷ operands) (suc i) s h e fit = let parts = fit_parts slots operands i s (omega arith) (omega arith) fit in let later = parts.1 in (parts.0, rw add-one (rw add-one at later))
+  fit_parts (x ∷ slots) (o ∷ operands) (suc i) s h e fit =
+      let parts = fit_parts slots operands i s (omega arith) (omega arith) fit in
+      let later = parts.1 in
+      (parts.0, rw add-one (rw add-one at later))
 
   -- where all fit, those from a place on do
   pub fit_drop : (slots : List Slot) (operands : List OperandMeaning) (i : ℕ)
@@ -90,7 +93,8 @@ asked_end all (x ∷ slots) (o ∷ operands) (suc i) asked h e is =
     asked_end all slots operands i asked (omega arith) (omega arith) is
 
 -- no operand stands past the last
-pub past_end : (operands : List OperandMeaning) (i : ℕ) → length operands ≤ i → slice_index_or operands i nothing ≡ nothing
+pub past_end : (operands : List OperandMeaning) (i : ℕ) → length operands ≤ i
+    → slice_index_or operands i nothing ≡ nothing
 past_end [] i h = refl
 past_end (o ∷ operands) zero h = absurd (omega arith)
 past_end (o ∷ operands) (suc i) h = past_end operands i (omega arith)

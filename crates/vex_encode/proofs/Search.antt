@@ -34,10 +34,14 @@ shorter_assoc : (x a b : List ℕ) → shorter x (Some (shorter a (Some b))) ≡
 shorter_assoc x a b = by (nat_le (length x) (length a)) refl (nat_le (length a) (length b)) refl where
   by : (p : Bool) → nat_le (length x) (length a) ≡ p → (q : Bool) → nat_le (length a) (length b) ≡ q
       → shorter x (Some (if q then a else b)) ≡ shorter (if p then x else a) (Some b)
-  by true h true k = let e : nat_le (length x) (length b) ≡ true = le_chain (length x) (length a) (length b) h k in rw (h, e) refl
+  by true h true k =
+      let e : nat_le (length x) (length b) ≡ true = le_chain (length x) (length a) (length b) h k in
+      rw (h, e) refl
   by true h false k = refl
   by false h true k = rw (h, k) refl
-  by false h false k = let e : nat_le (length x) (length b) ≡ false = gt_chain (length x) (length a) (length b) h k in rw (e, k) refl
+  by false h false k =
+      let e : nat_le (length x) (length b) ≡ false = gt_chain (length x) (length a) (length b) h k in
+      rw (e, k) refl
 
 -- the first of least length of two lists one after the other
 pub first_shortest-append : (xs ys : List (List ℕ))
@@ -145,7 +149,10 @@ best-first m [] h = refl
 best-first m (x ∷ xs) h =
     best-append m (x ∷ []) xs
     ∙ ap₂ shorter_of (best-one m x) (best-first m xs (λ y z k l. h y z (inr k) (inr l)))
-    ∙ first_kept (standard_of x m) (first m xs) (λ a b e f. let from = from-first m xs b f in h x from.0 (inl refl) (inr from.1) a b e from.2)
+    ∙ first_kept (standard_of x m) (first m xs) later
+  where
+    later : (a b : List ℕ) → standard_of x m ≡ Some a → first m xs ≡ Some b → length a ≤ length b
+    later a b e f = let from = from-first m xs b f in h x from.0 (inl refl) (inr from.1) a b e from.2
 
 best_of_two : {A : Type 0} (m : Meaning) (f : A → List Row) (a b : A)
     → best m (flat_map f (a ∷ b ∷ [])) ≡ shorter_of (best m (f a)) (best m (f b))
@@ -162,7 +169,13 @@ pub best-first_of_two : {A : Type 0} (m : Meaning) (f : A → List Row) (a b : A
 best-first_of_two m f a b h k l =
     best_of_two m f a b
     ∙ ap₂ shorter_of (best-first m (f a) h) (best-first m (f b) k)
-    ∙ first_kept (first m (f a)) (first m (f b)) (λ x y d e. let here = from-first m (f a) x d in let there = from-first m (f b) y e in l here.0 there.0 here.1 there.1 x y here.2 there.2)
+    ∙ first_kept (first m (f a)) (first m (f b)) later
+  where
+    later : (x y : List ℕ) → first m (f a) ≡ Some x → first m (f b) ≡ Some y → length x ≤ length y
+    later x y d e =
+        let here = from-first m (f a) x d in
+        let there = from-first m (f b) y e in
+        l here.0 there.0 here.1 there.1 x y here.2 there.2
 
 -- ---- all entries
 

@@ -7,7 +7,7 @@ use Rattle.std.proofs.Common.{arith, ap, sym, ◌∙◌, inl, inr, subst, subst�
 use Rattle.std.proofs.lemmas.Bool.Decides.{nat_tests}
 use Rattle.x86_opcode.specs.declared.Opcode.{Opcode}
 use Rattle.x86_operand.specs.Kind.{Kind, WithoutModRM, InRegister, InMemory, VectorIndexed, is_vector, plain_kind}
-use Rattle.x86_operand.specs.Meaning.{OperandMeaning, register, signed, unsigned, memory, nothing, Meaning}
+use Rattle.x86_operand.specs.Meaning.{number_of, OperandMeaning, register, signed, unsigned, memory, nothing, Meaning}
 use Rattle.x86_operand.specs.Same.{same_meaning}
 use Rattle.x86_operand.specs.Same.Lemmas.{same_meaning_equal, same_meaning_refl}
 use Rattle.x86_address.specs.Place.{Place, NoPlace, Direct, Based, RipBased, Scaled, Baseless, IsPlace, IsOfKind}
@@ -40,7 +40,7 @@ use Rattle.vex_decode.specs.Fields.{shortest_form}
 use Rattle.vex_decode.specs.Spelling.{Syntax, imm_bytes, bytes_of, meant, FitsRule, FitsGroup, FitsReg, FitsImm}
 use Rattle.vex_decode.specs.Spelling.{IsSyntax, SpellsBy}
 use Rattle.vex_forms.specs.FormWalk.Lemmas.{ordered}
-use Rattle.vex_encode.specs.Standard.{operand_of_kind, number_of, imm_of, target_of, fields_for, reg_for, candidate}
+use Rattle.vex_encode.specs.Standard.{operand_of_kind, imm_of, target_of, fields_for, reg_for, candidate}
 use Rattle.vex_encode.specs.Standard.{is_placed, is_given, standard}
 use Rattle.vex_encode.specs.Standard.Lemmas.{first_or_none, e_given}
 use Rattle.vex_encode.proofs.Candidate.{no_operand, map_same, slot_again}

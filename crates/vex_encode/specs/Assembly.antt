@@ -3,7 +3,7 @@ use Rattle.std.specs.Prelude.{◌≡◌, ℕ, ◌+◌, ◌*◌, ◌/◌, ◌%◌
 use Rattle.x86_operand.specs.declared.register.RegisterBank.{RegisterBank}
 use Rattle.x86_operand.specs.Kind.{Kind, WithoutModRM, InRegister, InMemory, VectorIndexed}
 use Rattle.x86_operand.specs.Instruction.{operand_at}
-use Rattle.x86_operand.specs.Meaning.{OperandMeaning, register, memory, Meaning}
+use Rattle.x86_operand.specs.Meaning.{number_of, OperandMeaning, register, memory, Meaning}
 use Rattle.x86_address.specs.Place.{Target}
 use Rattle.x86_operand.specs.declared.register.RegisterBank.TheVariants.{Q}
 use Rattle.x86_operand.specs.declared.address.Address.{Address}
@@ -17,7 +17,7 @@ use Rattle.vex_forms.specs.declared.slot.Slot.{Slot}
 use Rattle.vex_forms.specs.Operands.{target_seen}
 use Rattle.vex_forms.specs.Slots.{slots, names_g, names_v, names_e, names_imm}
 use Rattle.vex_encode.specs.declared.operand_walk.Asked.{Asked}
-use Rattle.vex_encode.specs.Standard.{operand_of_kind, number_of, imm_of, target_of}
+use Rattle.vex_encode.specs.Standard.{operand_of_kind, imm_of, target_of}
 use Rattle.vex_encode.specs.Conditions.{RegisterFits, AddressFits}
 
 -- what operands ask for, each by the first slot of its kind; the one at the slot of E is named by its place among all
@@ -53,11 +53,6 @@ IsRegisterOf bank _ = ⊥
 abbrev pub IsAddressOf : Bool → RegisterBank → OperandMeaning → Type 0
 IsAddressOf vector bank (memory address) = AddressFits vector bank address
 IsAddressOf vector bank _ = ⊥
-
--- an operand is an address
-abbrev pub IsAddress : OperandMeaning → Type 0
-IsAddress (memory address) = Unit {0}
-IsAddress _ = ⊥
 
 -- in a row with its operand E in memory, the operand there is an address that fits
 abbrev pub IsPlaced : Kind → RegisterBank → OperandMeaning → Type 0

@@ -3,7 +3,7 @@ use Rattle.std.specs.Prelude.{pos, ℕ, ◌*◌, ◌/◌, ◌%◌, Bool, not, �
 use Rattle.std.specs.Prelude.{if◌then◌else◌}
 use Rattle.std.specs.Int.{cast_unsigned, w8}
 use Rattle.x86_operand.specs.Kind.{Kind, WithoutModRM, InRegister, InMemory, VectorIndexed, is_vector}
-use Rattle.x86_operand.specs.Meaning.{OperandMeaning, register, signed, unsigned, memory, nothing, Meaning}
+use Rattle.x86_operand.specs.Meaning.{OperandMeaning, number_of, register, signed, unsigned, memory, nothing, Meaning}
 use Rattle.x86_operand.specs.Same.{same_meaning}
 use Rattle.x86_address.specs.Place.{Place, has_sib, Target, NoTarget, Number, At, Numbered}
 use Rattle.x86_address.specs.Shortest.{shortest, plain, x_of, b_of}
@@ -19,14 +19,6 @@ abbrev pub operand_of_kind : (Slot → Bool) → List Slot → List OperandMeani
 operand_of_kind is [] operands = nothing
 operand_of_kind is (slot ∷ slots) [] = nothing
 operand_of_kind is (slot ∷ slots) (operand ∷ operands) = if is slot then operand else operand_of_kind is slots operands
-
--- the number of a register, 0 of all else
-abbrev pub number_of : OperandMeaning → ℕ
-number_of (register reg) = reg.num
-number_of (signed imm) = 0
-number_of (unsigned imm) = 0
-number_of (memory address) = 0
-number_of nothing = 0
 
 -- the immediate byte of an operand: its low eight bits, or 16 times a register's number
 abbrev pub imm_of : OperandMeaning → ℕ

@@ -4,7 +4,7 @@ ghost use Rattle.std.specs.Prelude.{◌≡◌, ◌<◌, Bool};
 ghost use Rattle.std.specs.Option.{ForSome};
 ghost use Rattle.x86_operand.specs.Instruction.{operand_at};
 ghost use Rattle.x86_operand.specs.Kind.{is_vector};
-ghost use Rattle.x86_operand.specs.Meaning.{Meaning, memory, operand_meaning};
+ghost use Rattle.x86_operand.specs.Meaning.{Meaning, operand_meaning};
 ghost use Rattle.x86_operand.specs.declared.register.RegisterBank.{RegisterBank};
 ghost use Rattle.x86_operand.specs.declared.register.RegisterBank.TheVariants.{Q};
 ghost use Rattle.x86_address.specs.Shortest.{in_banks, index_register, plain, plain_index};
@@ -12,31 +12,15 @@ ghost use Rattle.x86_address.specs.Spells.{BaseFits, IndexFits};
 ghost use Rattle.vex_rows.specs.Row.{Row};
 ghost use Rattle.vex_forms.specs.Operands.{BanksFit, NumberFits};
 ghost use Rattle.vex_forms.specs.Slots.{slots};
-ghost use Rattle.vex_encode.specs.Assembly.{AsksFor, CanBePlaced, HasNumbers, GeneralAddress, IsAddress, IsAddressOf};
+ghost use Rattle.vex_encode.specs.Assembly.{AsksFor, CanBePlaced, HasNumbers, GeneralAddress, IsAddressOf};
 ghost use Rattle.vex_encode.specs.Assembly.{IsAsked, IsPlaced};
 ghost use Rattle.vex_forms.specs.Reads.{kind_seen};
 ghost use Rattle.vex_encode.specs.Standard.{target_of};
 ghost use Rattle.vex_encode.specs.Conditions.{AddressFits, SlotIndexFits};
 
-use crate::operand_walk::{Asked, number_of};
+use crate::operand_walk::Asked;
 use vex_forms::{Kind, OperandE, OperandFields};
 use x86_operand::{Address, Index, Operand, RegSpec, RegisterBank};
-
-/// The address of an operand in memory.
-fn address_of(operand: Operand) -> Address
-    requires { IsAddress (operand_meaning operand) }
-    ensures { operand_meaning operand ≡ memory result }
-{
-    match operand {
-        Operand::MemDeref { base } => Address {
-            base: Some(base),
-            index: None,
-            disp: 0,
-        },
-        Operand::Memory { address } => address,
-        _ => unreachable!(),
-    }
-}
 
 /// The index with its register in bank `Q`.
 fn general_index(index: Option<Index>) -> Option<Index>
@@ -70,7 +54,10 @@ fn address_at_e(vector: bool, operand: Operand) -> Address
     ensures address { GeneralAddress (operand_meaning operand) result }
     ensures bytes { BaseFits result.base result.index × IndexFits vector result.index }
 {
-    general_address(address_of(operand))
+    match operand.address() {
+        Some(address) => general_address(address),
+        None => unreachable!(),
+    }
 }
 
 /// What the operand at the slot E asks for.
@@ -83,7 +70,7 @@ fn operand_e(kind: Kind, operand: Operand) -> OperandE
 {
     match kind {
         Kind::WithoutModRM => OperandE::Absent,
-        Kind::Register => OperandE::Register(number_of(operand) % 16),
+        Kind::Register => OperandE::Register(operand.number() % 16),
         Kind::Memory => OperandE::Memory(address_at_e(false, operand)),
         Kind::Vector => OperandE::Memory(address_at_e(true, operand)),
     }

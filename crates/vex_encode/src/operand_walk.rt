@@ -3,31 +3,17 @@
 ghost use Rattle.std.specs.Prelude.{◌≡◌, ◌↔◌, ◌≤◌, IsSome, IfSome, IsTrue, List, [], ◌∷◌, length, true};
 ghost use Rattle.x86_operand.specs.Instruction.{operand_at};
 ghost use Rattle.x86_operand.specs.Kind.{Kind as KindSeen};
-ghost use Rattle.x86_operand.specs.Meaning.{OperandMeaning, operand_meaning};
+ghost use Rattle.x86_operand.specs.Meaning.{OperandMeaning, number_of, operand_meaning};
 ghost use Rattle.vex_forms.specs.declared.slot.Slot.{Slot};
 ghost use Rattle.vex_forms.specs.Slots.{names_imm};
 ghost use Rattle.vex_encode.specs.Assembly.{IsAsked, IsRegisterOf};
 ghost use Rattle.vex_encode.specs.Conditions.{OperandFits, OperandsFit};
 ghost use Rattle.vex_forms.specs.Reads.{kind_seen};
-ghost use Rattle.vex_encode.specs.Standard.{imm_of, number_of};
+ghost use Rattle.vex_encode.specs.Standard.{imm_of};
 
 use crate::fits::placed_fits;
 use vex_forms::{Kind, Slot};
 use x86_operand::{Instruction, Operand, RegisterBank};
-
-/// The number of a register, 0 of all else.
-pub fn number_of(operand: Operand) -> u8
-    ensures { result ≡ number_of (operand_meaning operand) }
-{
-    match operand {
-        Operand::Register { reg } => reg.num(),
-        Operand::ImmediateI8 { .. }
-        | Operand::ImmediateU8 { .. }
-        | Operand::MemDeref { .. }
-        | Operand::Memory { .. }
-        | Operand::Nothing => 0,
-    }
-}
 
 /// The number of a register that can stand at a slot of that bank.
 fn number_at(bank: RegisterBank, operand: Operand) -> Option<u8>

@@ -10,7 +10,7 @@ ghost use Rattle.vex_encode.specs.Sweep.{item_at};
 
 use crate::recoder::recode;
 use crate::spelling::Spelling;
-use std::alloc::{AllocError, Global};
+use std::alloc::Global;
 use std::marker::Model;
 use thiserror::Error;
 use vex_decode::{prefix_free, reading_is_spelling};

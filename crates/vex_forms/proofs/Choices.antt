@@ -34,7 +34,8 @@ checks : Entry → List Check
 checks entry = (steps entry.form).before_modrm ++ (steps entry.form).after_modrm ++ (steps entry.form).after_address
 
 -- a row exists where the entry's rules allow it and no check refuses it
-exists_by : (entry : Entry) (w l : Bool) (kind : Kind) (group : Option ℕ) → let row = row_at entry w (if l then 1 else 0) kind group in
+exists_by : (entry : Entry) (w l : Bool) (kind : Kind) (group : Option ℕ)
+    → let row = row_at entry w (if l then 1 else 0) kind group in
     exists row ≡ (rules_allow entry w l && list_all (permits_choice row) (checks entry))
 unfolding exists checks
 exists_by entry w l kind group =
@@ -42,7 +43,8 @@ exists_by entry w l kind group =
     ap (λ bit. (allows entry.w w && allows entry.l bit) && list_all (permits_choice row) (checks entry)) (bit-again l)
 
 -- where the rules allow it, it is the checks alone
-pub exists_by_checks : (entry : Entry) (w l : Bool) (kind : Kind) (group : Option ℕ) → rules_allow entry w l ≡ true → let row = row_at entry w (if l then 1 else 0) kind group in
+pub exists_by_checks : (entry : Entry) (w l : Bool) (kind : Kind) (group : Option ℕ) → rules_allow entry w l ≡ true
+    → let row = row_at entry w (if l then 1 else 0) kind group in
     exists row ≡ list_all (permits_choice row)
     ((steps entry.form).before_modrm ++ (steps entry.form).after_modrm ++ (steps entry.form).after_address)
 unfolding checks

@@ -59,7 +59,9 @@ fits_then false b h k = cc
 
 fits_append : (xs ys : List Slot) → slots_fit xs ≡ true → slots_fit ys ≡ true → slots_fit (xs ++ ys) ≡ true
 fits_append [] ys h k = k
-fits_append (x ∷ xs) ys h k = let both = both_fit (slot_fits x) (slots_fit xs) h in fits_then (slot_fits x) (slots_fit (xs ++ ys)) both.0 (fits_append xs ys both.1 k)
+fits_append (x ∷ xs) ys h k =
+    let both = both_fit (slot_fits x) (slots_fit xs) h in
+    fits_then (slot_fits x) (slots_fit (xs ++ ys)) both.0 (fits_append xs ys both.1 k)
 
 rule_fits : (row : Row) (slot : SlotRule) → slots_fit (slots_at row slot) ≡ true
 rule_fits row (slot_rule.G bank) = fits_then _ true (bank_fits row bank) refl

@@ -12,8 +12,8 @@ use Rattle.vex_forms.specs.declared.choice.Choice.{Choice}
 use Rattle.vex_forms.specs.declared.row_layout.RowLayout.{RowLayout}
 use Rattle.vex_forms.specs.Slots.{slots, index_bank, size_of, v_rule}
 
--- the kind of the operand E, by whether there is a ModRM byte, whether the index of an address is a vector register, and
--- whether the operand is in memory
+-- the kind of the operand E, by whether there is a ModRM byte, whether the index of an address is a vector register,
+-- and whether the operand is in memory
 abbrev pub kind_at : Bool → Bool → Bool → Kind
 kind_at modrm vector memory = if modrm then (if memory then memory_kind vector else InRegister) else WithoutModRM
 

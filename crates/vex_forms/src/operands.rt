@@ -1,7 +1,7 @@
 //! The operands that the slots of a row name, as they are added to an instruction. What is said of them holds where
 //! each bank has sixteen registers, as in every row.
 
-ghost use Rattle.std.specs.Prelude.{◌≡◌, ◌<◌, true, IfSome, IsSome};
+ghost use Rattle.std.specs.Prelude.{◌≡◌, ◌<◌, true};
 ghost use Rattle.x86_address.specs.Bytes.{bit};
 ghost use Rattle.x86_address.specs.Shortest.{in_banks, index_register, plain, plain_index};
 ghost use Rattle.x86_operand.specs.Meaning.{memory, operand_meaning, register};

@@ -7,7 +7,7 @@ use Rattle.x86_opcode.specs.declared.Opcode.{Opcode}
 use Rattle.x86_operand.specs.declared.register.RegisterBank.{RegisterBank}
 use Rattle.x86_operand.specs.Kind.{Kind, WithoutModRM, InRegister, InMemory, VectorIndexed, is_vector, plain_kind}
 use Rattle.x86_operand.specs.Kind.{memory_kind}
-use Rattle.x86_operand.specs.Meaning.{OperandMeaning, Meaning}
+use Rattle.x86_operand.specs.Meaning.{number_of, OperandMeaning, Meaning}
 use Rattle.x86_address.specs.Bytes.{bit}
 use Rattle.x86_address.specs.Place.{Place, NoPlace, Direct, Based, RipBased, Scaled, Baseless, kind_of, Target}
 use Rattle.x86_address.specs.Place.{target}
@@ -26,7 +26,7 @@ use Rattle.vex_forms.specs.Gives.{gives, slot_operand}
 use Rattle.vex_forms.specs.Slots.{slots, index_bank, names_g, names_v, names_e, names_imm, v_rule}
 use Rattle.vex_decode.specs.Spelling.{Syntax, IsSyntax, meant, FitsGroup, FitsReg, FitsRule, FitsImm}
 use Rattle.vex_decode.specs.Fields as fields
-use Rattle.vex_encode.specs.Standard.{operand_of_kind, number_of, imm_of, target_of, reg_for}
+use Rattle.vex_encode.specs.Standard.{operand_of_kind, imm_of, target_of, reg_for}
 use Rattle.vex_encode.specs.Standard.Lemmas.{First, first_or_none, found, g_given, v_given, e_given, signed_again}
 use Rattle.vex_list.specs.declared.choices.PrefixForm as code
 use Rattle.vex_list.specs.declared.choices.PrefixForm.TheVariants.{TwoBytes, ThreeBytes}

@@ -1,7 +1,7 @@
 -- What a meaning and a row leave open to a spelling. Private functions and one law alone cite what stands here.
 use Rattle.std.specs.Prelude.{◌≡◌, ℕ, ◌+◌, ◌%◌, ◌<◌, ℤ, Bool, if◌then◌else◌, Option, Some, None}
 use Rattle.x86_operand.specs.Kind.{Kind, WithoutModRM, InRegister, InMemory, plain_kind}
-use Rattle.x86_operand.specs.Meaning.{Meaning, OperandMeaning, register}
+use Rattle.x86_operand.specs.Meaning.{number_of, Meaning, OperandMeaning, register}
 use Rattle.x86_address.specs.Bytes.{bit, Displacement, Absent, Short, Long}
 use Rattle.x86_address.specs.Place.{Place, NoPlace, Direct, Based, RipBased, Scaled, Baseless, Base, NoBase, Rip}
 use Rattle.x86_address.specs.Place.{Numbered, Target, NoTarget, Number, At}
@@ -14,7 +14,7 @@ use Rattle.vex_forms.specs.Slots.{slots, names_g, names_v, names_e, names_imm}
 use Rattle.vex_forms.specs.Fields.{Fields}
 use Rattle.vex_decode.specs.Fields.{PrefixForm, C4, C5}
 use Rattle.vex_decode.specs.Spelling.{Syntax}
-use Rattle.vex_encode.specs.Standard.{operand_of_kind, number_of, imm_of, target_of, reg_for}
+use Rattle.vex_encode.specs.Standard.{operand_of_kind, imm_of, target_of, reg_for}
 use Rattle.vex_list.specs.declared.choices.PrefixForm as code
 use Rattle.vex_list.specs.declared.choices.PrefixForm.TheVariants.{TwoBytes, ThreeBytes}
 use Rattle.vex_list.specs.declared.choices.Width.{Width}

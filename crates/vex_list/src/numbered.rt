@@ -11,8 +11,8 @@ use crate::choices::{AddressForm, Choices, PrefixForm, RowParts, Width};
 use vex_forms::OperandE;
 use vex_rows::Map;
 
-/// The form of a prefix and its bits R, X and B with a number below 16: bit 3 of the number says the form, and the others
-/// are R, X and B as they stand in the prefix, inverted (Intel SDM volume 2, figure 2-9). All else is 0.
+/// The form of a prefix and its bits R, X and B with a number below 16: bit 3 of the number says the form, and the
+/// others are R, X and B as they stand in the prefix, inverted (Intel SDM volume 2, figure 2-9). All else is 0.
 #[tactic(auto, unfolding(crate::specs::Sets::prefix_choice))]
 pub fn prefix_choice(number: u8) -> Choices
     ensures value { result ≡ prefix_choice number }

@@ -6,7 +6,7 @@ ghost use Rattle.x86_operand.specs.Meaning.{operand_meaning};
 ghost use Rattle.x86_address.specs.Place.{At};
 ghost use Rattle.x86_address.specs.Shortest.{plain};
 ghost use Rattle.vex_forms.specs.Operands.{target_seen};
-ghost use Rattle.vex_encode.specs.Standard.{imm_of, number_of, operand_of_kind, target_of};
+ghost use Rattle.vex_encode.specs.Standard.{imm_of, operand_of_kind, target_of};
 ghost use Rattle.vex_list.specs.Choices.{kind_by, lows_of, names};
 
 use vex_forms::{OperandE, Slot};
@@ -52,20 +52,6 @@ pub fn operand_of(kind: SlotKind, slots: &[Slot], instruction: &Instruction) -> 
     Operand::Nothing
 }
 
-/// The number of a register, 0 of all else.
-pub fn number_of(operand: Operand) -> u8
-    ensures { result ≡ number_of (operand_meaning operand) }
-{
-    match operand {
-        Operand::Register { reg } => reg.num(),
-        Operand::ImmediateI8 { .. }
-        | Operand::ImmediateU8 { .. }
-        | Operand::MemDeref { .. }
-        | Operand::Memory { .. }
-        | Operand::Nothing => 0,
-    }
-}
-
 /// The least immediate byte that names an operand, and how many bytes from that on do: the one that is its value's low
 /// eight bits, or the sixteen whose high four bits are a register's number (Intel SDM volume 2, section 2.3.9).
 pub fn immediates_of(operand: Operand) -> (u8, u8)
@@ -85,22 +71,11 @@ pub fn immediates_of(operand: Operand) -> (u8, u8)
 fn address_of(operand: Operand) -> Address
     ensures { At (plain result) ≡ target_of InMemory (operand_meaning operand) }
 {
-    match operand {
-        Operand::Memory { address } => address,
-        Operand::MemDeref { base } => Address {
-            base: Some(base),
-            index: None,
-            disp: 0,
-        },
-        Operand::Register { .. }
-        | Operand::ImmediateI8 { .. }
-        | Operand::ImmediateU8 { .. }
-        | Operand::Nothing => Address {
-            base: RegSpec::of(RegisterBank::Q, 0),
-            index: None,
-            disp: 0,
-        },
-    }
+    operand.address().unwrap_or(Address {
+        base: RegSpec::of(RegisterBank::Q, 0),
+        index: None,
+        disp: 0,
+    })
 }
 
 /// What the bytes from ModRM on name, by the operand at the slot E.
@@ -112,6 +87,6 @@ pub fn operand_e(has_modrm: bool, memory: bool, operand: Operand) -> OperandE
     } else if memory {
         OperandE::Memory(address_of(operand))
     } else {
-        OperandE::Register(number_of(operand))
+        OperandE::Register(operand.number())
     }
 }

@@ -3,7 +3,7 @@
 ghost use Rattle.std.specs.Prelude.{◌≡◌, ◌<◌, ℕ};
 ghost use Rattle.std.specs.List.{list_any};
 ghost use Rattle.std.specs.Option.{ForSome};
-ghost use Rattle.x86_address.specs.Shortest.{is_upper, plain, plain_base, plain_index};
+ghost use Rattle.x86_address.specs.Shortest.{is_upper, plain_base, plain_index};
 ghost use Rattle.vex_forms.specs.Layout.{IsLayout, row_for};
 ghost use Rattle.vex_forms.specs.Operands.{target_seen};
 ghost use Rattle.vex_forms.specs.Slots.{names_g};
@@ -11,7 +11,7 @@ ghost use Rattle.vex_list.specs.Choices.{b_fixed, b_of_base, r_fixed, v_fixed, x
 ghost use Rattle.vex_list.specs.Sets.{IsRowParts};
 
 use crate::choices::RowParts;
-use crate::operands::{SlotKind, immediates_of, number_of, operand_e, operand_of};
+use crate::operands::{SlotKind, immediates_of, operand_e, operand_of};
 use vex_forms::{OperandE, RowLayout, Slot, VvvvRule};
 use vex_rows::Entry;
 use x86_operand::{Index, Instruction, RegSpec, RegisterBank};
@@ -109,8 +109,8 @@ pub fn parts_of(
         → IsRowParts (row_for entry.now w l memory group) instruction.now.meaning result }
 {
     let slots = layout.slots.as_slice();
-    let g = number_of(operand_of(SlotKind::G, slots, instruction));
-    let v = number_of(operand_of(SlotKind::V, slots, instruction));
+    let g = operand_of(SlotKind::G, slots, instruction).number();
+    let v = operand_of(SlotKind::V, slots, instruction).number();
     let e = operand_e(
         layout.has_modrm,
         memory,

@@ -2,7 +2,7 @@
 //!
 //! The bytes of the choices come in ascending order but for few, so that most are passed over without a decode.
 
-ghost use Rattle.std.specs.Prelude.{◌≡◌, ◌<◌};
+ghost use Rattle.std.specs.Prelude.{◌<◌};
 ghost use Rattle.vex_decode.specs.Spelling.{SpellsBy};
 ghost use Rattle.vex_rows.specs.Row.{IsRow, Row};
 ghost use Rattle.vex_list.specs.Choices.{IsChoices};

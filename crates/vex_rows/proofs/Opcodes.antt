@@ -79,7 +79,9 @@ numbers_of-has_opcode entry opcode =
 -- the places, counted from a first one, of the lists that have a number
 unfoldable places_where : ℕ → ℕ → List (List ℕ) → List ℕ
 places_where n place [] = []
-places_where n place (numbers ∷ later) = let rest = places_where n (suc place) later in cond (is_in n numbers) (place ∷ rest) rest
+places_where n place (numbers ∷ later) =
+    let rest = places_where n (suc place) later in
+    cond (is_in n numbers) (place ∷ rest) rest
 
 unfoldable same_list : List ℕ → List ℕ → Bool
 same_list [] [] = true
@@ -129,7 +131,8 @@ unfolding places_where
 places_where-filter opcode f [] i reads = refl
 places_where-filter opcode f (entry ∷ entries) i reads =
     let first : i ≡ i + zero = omega arith in
-    let later = λ (n : ℕ) (x : Entry) (e : slice_get entries n ≡ Some x). let at : suc i + n ≡ i + suc n = omega arith in ap f at ∙ reads (suc n) x e in
+    let next : (n : ℕ) → suc i + n ≡ i + suc n = λ n. omega arith in
+    let later = λ (n : ℕ) (x : Entry) (e : slice_get entries n ≡ Some x). ap f (next n) ∙ reads (suc n) x e in
     map-cond (is_in (opcode_number opcode) (numbers_of entry)) f i entry
     (places_where (opcode_number opcode) (suc i) (map numbers_of entries))
     (filter (λ e. has_opcode e opcode) entries) (ap f first ∙ reads zero entry refl)

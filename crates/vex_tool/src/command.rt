@@ -1,6 +1,6 @@
 //! The commands, and how the words of the command line ask for one.
 
-ghost use Rattle.std.specs.Prelude.{◌≡◌, ◌≤◌, IfSome};
+ghost use Rattle.std.specs.Prelude.{◌≡◌};
 ghost use Rattle.vex_tool.specs.Command.{command, command_of_one, command_of_two, count_made, count_of, count_written};
 
 use crate::words::Words;

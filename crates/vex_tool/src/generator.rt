@@ -3,9 +3,7 @@
 ghost use Rattle.std.specs.Prelude.{◌≡◌, ◌+◌, ◌<◌, ◌≤◌, ◌++◌, length, slice_get, IfSome, IsNone, Some, None};
 ghost use Rattle.arrayvec.specs.ArrayVec.{array_vec_len};
 ghost use Rattle.vex_rows.specs.Table.{table};
-ghost use Rattle.vex_forms.specs.Fields.{fields_of};
 ghost use Rattle.vex_forms.specs.Layout.{IsLayout, row_for};
-ghost use Rattle.vex_decode.specs.Fields.{C4, prefix_bytes};
 ghost use Rattle.vex_tool.specs.Generator.{bit_of, bytes_made, generated, greatest, kind_made, l_free, l_made};
 ghost use Rattle.vex_tool.specs.Generator.{operand_made, spelling_of, v_made, w_made};
 

@@ -1,6 +1,6 @@
 //! The unfinished line, and how a piece of the input ends lines.
 
-ghost use Rattle.std.specs.Prelude.{◌≡◌, ◌≢◌, ◌≤◌, [], ◌∷◌, length, Some, OnOk, IfSome, IsSomeAnd, IsTrue, ◌↔◌};
+ghost use Rattle.std.specs.Prelude.{◌≡◌, ◌≢◌, ◌≤◌, [], length, Some, OnOk, IfSome, IsSomeAnd, IsTrue, ◌↔◌};
 ghost use Rattle.std.specs.Prelude.{option_copied};
 ghost use Rattle.vex_tool.specs.Ends.{Answers};
 ghost use Rattle.vex_tool.specs.Report.{report, MayLackMemory};

@@ -5,7 +5,7 @@ ghost use Rattle.std.specs.Prelude.{MatchResult};
 ghost use Rattle.hex.specs.Hex.{decode_of};
 ghost use Rattle.vex_tool.specs.Ends.{Answers, Writes};
 ghost use Rattle.vex_tool.specs.ErrorLine.{error_line};
-ghost use Rattle.vex_tool.specs.Report.{report, code, code_report, taken, digits, is_blank};
+ghost use Rattle.vex_tool.specs.Report.{report, code, code_report, digits, is_blank};
 ghost use Rattle.vex_tool.specs.Report.{line_error_name, takes_memory, MayLackMemory};
 
 use crate::asm_line::write_asm_line;
@@ -21,6 +21,8 @@ use crate::spelling_lines::write_spellings;
 use crate::sweep_lines::write_sweep;
 use arrayvec::ArrayVec;
 use std::alloc::Global;
+use x86_operand::FieldDescription;
+use x86_reader::ListSink;
 
 /// How many bytes a line has, at most.
 pub const MAX_LINE: usize = 8192;
@@ -83,15 +85,22 @@ fn decode_digits(text: &[u8], bytes: &mut [u8]) -> Option<usize>
     }
 }
 
-/// Room for the digits of a line, for the bytes that they write and for the text of a line of the output, and a machine
-/// that runs the bytes. It is made once and lent to each line: to make it anew, by value, would take longer than all
-/// else that a line needs.
+/// What the commands put together for a line: a list of notes, the text of a line of the output, and a machine that runs
+/// the line's bytes.
+#[derive(Drop)]
+struct Scratch<'a> {
+    notes: ListSink<FieldDescription>,
+    text: LineText,
+    machine: LineMachine<'a>,
+}
+
+/// Room for the digits of a line, for the bytes that they write and for what the commands put together. It is made once
+/// and lent to each line: to make it anew, by value, would take longer than all else that a line needs.
 #[derive(Drop)]
 pub struct LineRoom<'a> {
     digits: ArrayVec<u8, MAX_LINE>,
     bytes: [u8; MAX_CODE],
-    text: LineText,
-    machine: LineMachine<'a>,
+    scratch: Scratch<'a>,
 }
 
 impl<'a> LineRoom<'a> {
@@ -100,8 +109,11 @@ impl<'a> LineRoom<'a> {
         LineRoom {
             digits: ArrayVec::new(),
             bytes: [0; MAX_CODE],
-            text: LineText::new(),
-            machine: LineMachine::new(memory),
+            scratch: Scratch {
+                notes: ListSink::new(),
+                text: LineText::new(),
+                machine: LineMachine::new(memory),
+            },
         }
     }
 
@@ -133,8 +145,8 @@ pub fn write_error<K: Sink>(
     ensures { Writes result (K.text sink.old) (K.text sink.new) (K.faults sink.old) (K.faults sink.new)
         (error_line (line_error_name error)) }
 {
-    error_text(&mut room.text, error.name());
-    sink.write_all(room.text.as_str().as_bytes())
+    error_text(&mut room.scratch.text, error.name());
+    sink.write_all(room.scratch.text.as_str().as_bytes())
 }
 
 // Writes the report of a line of which the command takes these bytes.
@@ -142,14 +154,14 @@ fn write_code_report<K: Sink>(
     alloc: Global,
     command: &Command,
     bytes: &[u8],
-    machine: &mut LineMachine<'_>,
-    text: &mut LineText,
+    scratch: &mut Scratch<'_>,
     sink: &mut K,
 ) -> Result<(), Halt>
     ensures { Answers (λ written. (written ≡ []) × IsTrue (takes_memory command.now)) result
         (K.text sink.old) (K.text sink.new) (K.faults sink.old) (K.faults sink.new)
         (code_report command.now (Ok bytes.now)) }
 {
+    let text = &mut scratch.text;
     match command {
         Command::Recode(settings) => {
             write_result_line(settings, bytes, text, sink)?;
@@ -157,7 +169,7 @@ fn write_code_report<K: Sink>(
         }
         Command::Sweep(settings) => write_sweep(alloc, settings, bytes, text, sink),
         Command::Notes(settings) => {
-            write_notes(settings, bytes, text, sink)?;
+            write_notes(settings, bytes, &mut scratch.notes, text, sink)?;
             Ok(())
         }
         Command::Asm(settings) => {
@@ -165,7 +177,7 @@ fn write_code_report<K: Sink>(
             Ok(())
         }
         Command::Emulate(settings) => {
-            write_emulated(settings, bytes, machine, text, sink)?;
+            write_emulated(settings, bytes, &mut scratch.machine, text, sink)?;
             Ok(())
         }
         Command::Spellings(settings) => {
@@ -197,26 +209,12 @@ pub fn write_report<K: Sink>(
 {
     if let Command::Asm(_) = command {
         // It takes the line itself.
-        return write_code_report(
-            alloc,
-            command,
-            line,
-            &mut room.machine,
-            &mut room.text,
-            sink,
-        );
+        return write_code_report(alloc, command, line, &mut room.scratch, sink);
     }
     match room.decode(line) {
         Ok(n) => {
             let bytes = &room.bytes[..n];
-            write_code_report(
-                alloc,
-                command,
-                bytes,
-                &mut room.machine,
-                &mut room.text,
-                sink,
-            )
+            write_code_report(alloc, command, bytes, &mut room.scratch, sink)
         }
         Err(error) => {
             write_error(error, room, sink)?;

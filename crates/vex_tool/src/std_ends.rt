@@ -1,7 +1,7 @@
 //! The ends of the real program, over any reader and any writer of std. They tell no bytes.
 
-ghost use Rattle.std.specs.Prelude.{◌≡◌, ◌<◌, ◌≤◌, length, take, drop, None, Ok, IfOk, OnOk, OnErr};
-ghost use Rattle.std.specs.Io.KnownBytes.{Appends, Consumes, Keeps, IsAtEnd, ReadConsumes};
+ghost use Rattle.std.specs.Prelude.{◌≡◌, ◌<◌, ◌≤◌, length, drop, None, Ok, IfOk, OnOk, OnErr};
+ghost use Rattle.std.specs.Io.KnownBytes.{Appends, Keeps, ReadConsumes};
 ghost use Rattle.vex_tool.specs.Ends.{RoseOrIsLast, AppendsFront, counted};
 
 use crate::ends::{Failed, PIECE, Sink, Source};

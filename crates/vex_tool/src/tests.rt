@@ -1,6 +1,6 @@
 //! What no clause says: that the definitions mean what they should, and that each call works once.
 
-ghost use Rattle.std.specs.Prelude.{ℕ, ◌+◌, ◌≤◌, None};
+ghost use Rattle.std.specs.Prelude.{◌+◌, ◌≤◌, None};
 
 use crate::ends::{Failed, Source};
 use crate::memory_ends::{MemSink, MemSource};

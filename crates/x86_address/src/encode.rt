@@ -1,8 +1,7 @@
 //! The shortest bytes of an address.
 
 ghost use Rattle.std.specs.Prelude.{◌≡◌, ◌↔◌, ◌≤◌, ◌+◌, ◌*◌, ◌%◌, ◌<◌, ◌==◌, true, false, IsTrue, IsSome, IsNone};
-ghost use Rattle.std.specs.Prelude.{IfSome, ℕ, Bool, List, length, pos};
-ghost use Rattle.arrayvec.specs.ArrayVec.{array_vec_len};
+ghost use Rattle.std.specs.Prelude.{IfSome, ℕ, Bool, List, length};
 ghost use Rattle.x86_operand.specs.Kind.{InMemory, VectorIndexed, memory_kind};
 ghost use Rattle.x86_address.specs.Place.{place_bytes, NoBase, Rip, Numbered, At};
 ghost use Rattle.x86_address.specs.Shortest.{plain, plain_base, base_register, plain_index, exponent_of};

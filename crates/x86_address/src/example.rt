@@ -2,7 +2,7 @@
 
 use crate::{read_address, shortest_address};
 use std::test::Fail;
-use x86_operand::{Index, RegSpec, RegisterBank};
+use x86_operand::{Index, RegSpec};
 use x86_reader::U8Reader;
 
 #[test]

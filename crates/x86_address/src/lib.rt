@@ -4,7 +4,7 @@
 //!
 //! ```
 //! use x86_address::{read_address, shortest_address};
-//! use x86_operand::{Index, RegSpec, RegisterBank};
+//! use x86_operand::{Index, RegSpec};
 //! use x86_reader::U8Reader;
 //!
 //! // ModRM 44 names an address with SIB, here 88, and eight bits of displacement: [rax + rcx * 4 + 0x20].

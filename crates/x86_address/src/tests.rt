@@ -1,6 +1,6 @@
 //! What no clause shows: addresses as the manual's tables have them, and the calls at concrete readers.
 
-ghost use Rattle.std.specs.Prelude.{◌≡◌, ◌↔◌, ◌≤◌, ◌<◌, ◌/◌, ◌%◌, IsErr};
+ghost use Rattle.std.specs.Prelude.{◌↔◌, ◌≤◌, ◌<◌, ◌/◌, ◌%◌, IsErr};
 ghost use Rattle.x86_address.specs.Reading.{take_place};
 
 use crate::{

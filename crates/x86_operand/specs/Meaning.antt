@@ -42,3 +42,11 @@ pub record Decoded : Type 0 where
 abbrev pub address_of : OperandMeaning → Option Address
 address_of (memory address) = Some address
 address_of _ = None
+
+-- the number of a register, 0 of all else
+abbrev pub number_of : OperandMeaning → ℕ
+number_of (register reg) = reg.num
+number_of (signed imm) = 0
+number_of (unsigned imm) = 0
+number_of (memory address) = 0
+number_of nothing = 0

@@ -93,11 +93,25 @@ impl Eq for Address {
 }
 
 impl Operand {
-    ghost use Rattle.x86_operand.specs.Meaning.{operand_meaning, address_of};
+    ghost use Rattle.x86_operand.specs.Meaning.{operand_meaning, address_of, number_of};
     ghost use Rattle.x86_operand.specs.Instruction.{kept_operand};
 
-    // The address that a memory operand means, in whichever form it is written.
-    fn address(&self) -> Option<Address>
+    /// The number of a register, and 0 of all else.
+    pub fn number(&self) -> u8
+        ensures { result ≡ number_of (operand_meaning self.now) }
+    {
+        match *self {
+            Operand::Register { reg } => reg.num(),
+            Operand::ImmediateI8 { .. }
+            | Operand::ImmediateU8 { .. }
+            | Operand::MemDeref { .. }
+            | Operand::Memory { .. }
+            | Operand::Nothing => 0,
+        }
+    }
+
+    /// The address that a memory operand means, in whichever form it is written, and `None` of all else.
+    pub fn address(&self) -> Option<Address>
         ensures { result ≡ address_of (operand_meaning self.now) }
     {
         match *self {

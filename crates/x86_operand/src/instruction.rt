@@ -1,6 +1,6 @@
 //! An instruction: its meaning, and the number of bytes that spelled it.
 
-ghost use Rattle.std.specs.Prelude.{◌≡◌, ◌<◌, ◌≤◌, ◌↔◌, IsTrue, IsSome, IfSome, List, [], ◌∷◌, ◌++◌, length, map, None};
+ghost use Rattle.std.specs.Prelude.{◌≡◌, ◌<◌, ◌≤◌, ◌↔◌, IsTrue, IsSome, IfSome, [], ◌∷◌, ◌++◌, length, map, None};
 ghost use Rattle.std.specs.Prelude.{false};
 ghost use Rattle.std.specs.Bool.{OnTrue, OnFalse};
 ghost use Rattle.x86_operand.specs.Instruction.{four_places, kept_operand, operand_at};
@@ -28,7 +28,7 @@ pub struct Instruction {
 
 impl Model for Instruction {
     ghost use Rattle.std.specs.Prelude.{◌≡◌, ◌≤◌, length, map, take};
-    ghost use Rattle.x86_operand.specs.Meaning.{operand_meaning, Meaning, Decoded};
+    ghost use Rattle.x86_operand.specs.Meaning.{operand_meaning, Decoded};
     ghost use Rattle.x86_operand.specs.Instruction.{four_places};
     ghost use Rattle.std.proofs.Common.{sym};
     ghost use Rattle.x86_operand.specs.Instruction.Lemmas.{length-kept};

@@ -2,6 +2,7 @@ use crate::{
     Address, DecodeError, EncodeError, FieldDescription, Index, InnerDescription, Instruction,
     MemoryAccessSize, Note, Opcode, Operand, RegSpec, RegisterBank,
 };
+use std::process::Abort;
 use std::test::Fail;
 
 #[test]
@@ -204,6 +205,35 @@ fn an_address_is_kept_in_one_form(rt: HostRuntime) -> Result<(), Fail> {
         );
         assert_eq!(rt; made.operand(1), Operand::Nothing);
     }
+    Ok(())
+}
+
+/// The address with a base and a displacement.
+fn based(base: RegSpec, disp: i32) -> Address {
+    Address {
+        base: Some(base),
+        index: None,
+        disp,
+    }
+}
+
+/// Tests the number and the address of an operand.
+fn has_parts(rt: &impl Abort, operand: &Operand, number: u8, address: Option<Address>) {
+    assert_eq!(rt; operand.number(), number, "{operand:?}");
+    assert_eq!(rt; operand.address(), address, "{operand:?}");
+}
+
+#[test]
+fn an_operand_has_a_number_or_an_address(rt: HostRuntime) -> Result<(), Fail> {
+    let reg = RegSpec::of(RegisterBank::X, 13).ok_or("there are 32 of them")?;
+    let base = RegSpec::rcx();
+    let address = based(base, 8);
+    has_parts(&rt, &Operand::Register { reg }, 13, None);
+    has_parts(&rt, &Operand::ImmediateI8 { imm: 7 }, 0, None);
+    has_parts(&rt, &Operand::ImmediateU8 { imm: 7 }, 0, None);
+    has_parts(&rt, &Operand::MemDeref { base }, 0, Some(based(base, 0)));
+    has_parts(&rt, &Operand::Memory { address }, 0, Some(based(base, 8)));
+    has_parts(&rt, &Operand::Nothing, 0, None);
     Ok(())
 }
 

@@ -62,6 +62,16 @@ impl<D: Copy + Default> ListSink<D> {
         }
     }
 
+    /// Takes all triples away, so that the sink is as a new one.
+    pub fn clear(&mut self)
+        ensures kept { self.new.kept ≡ [] }
+        ensures whole { IsTrue self.new.whole }
+        ensures first { HoldsFirst {D = D} [] self.new }
+    {
+        self.kept.clear();
+        self.whole = true;
+    }
+
     /// How many triples are kept, at most 16.
     pub fn len(&self) -> usize
         ensures { result ≡ length self.now.kept }
@@ -77,7 +87,7 @@ impl<D: Copy + Default> ListSink<D> {
         self.kept.get(i)
     }
 
-    /// Whether no triple was dropped. Once false it stays so.
+    /// Whether no triple was dropped since the sink was made or cleared. Once false, it stays so whatever is recorded.
     pub fn whole(&self) -> bool
         ensures { result ≡ self.now.whole }
     {

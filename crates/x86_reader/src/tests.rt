@@ -128,6 +128,10 @@ fn a_list_sink_keeps_sixteen_triples(rt: HostRuntime) {
     assert_eq!(rt; sink.get(0), Some(&(0, 1, 0)));
     assert_eq!(rt; sink.get(15), Some(&(15, 16, 30)));
     assert_eq!(rt; sink.get(16), None);
+    sink.clear();
+    assert_eq!(rt; (sink.len(), sink.whole()), (0, true));
+    sink.record(3, 4, 5);
+    assert_eq!(rt; (sink.len(), sink.get(0)), (1, Some(&(3, 4, 5))));
 }
 
 #[test]

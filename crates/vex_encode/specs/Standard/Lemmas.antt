@@ -6,7 +6,7 @@ use Rattle.std.proofs.Common.{arith, ap, inl, inr}
 use Rattle.std.proofs.lemmas.Int.{of_z-to_z}
 use Rattle.x86_operand.specs.declared.register.RegisterBank.{RegisterBank}
 use Rattle.x86_operand.specs.Kind.{Kind, WithoutModRM, InRegister, InMemory, VectorIndexed, plain_kind}
-use Rattle.x86_operand.specs.Meaning.{OperandMeaning, nothing}
+use Rattle.x86_operand.specs.Meaning.{number_of, OperandMeaning, nothing}
 use Rattle.x86_address.specs.Place.{Target, NoTarget, Number, At, kind_of_target}
 use Rattle.x86_address.specs.Shortest.Lemmas.{plain-in_banks}
 use Rattle.vex_rows.specs.Row.{Among}
@@ -14,7 +14,7 @@ use Rattle.vex_forms.specs.declared.slot.Slot.{Slot}
 use Rattle.vex_forms.specs.declared.slot.Slot.TheVariants.{G, V, E, U8, I8, R4}
 use Rattle.vex_forms.specs.Gives.{slot_operand, target_operand}
 use Rattle.vex_forms.specs.Slots.{names_g, names_v, names_e}
-use Rattle.vex_encode.specs.Standard.{operand_of_kind, number_of, target_of}
+use Rattle.vex_encode.specs.Standard.{operand_of_kind, target_of}
 
 -- the first operand whose slot passes a test, among operands that a function gives of the slots
 pub record First (is : Slot → Bool) (f : Slot → OperandMeaning) (slots : List Slot) : Type 0 where
@@ -30,7 +30,9 @@ first_operand is f (s ∷ slots) slot m h = by (is s) refl m (λ k. first_operan
   by : (b : Bool) → is s ≡ b → Among slot (s ∷ slots) → (Among slot slots → First is f slots) → First is f (s ∷ slots)
   by true e k next = record { slot = s; among = inl refl; passes = e; operand = rw e refl }
   by false e (inl k) next = absurd (cc)
-  by false e (inr k) next = let later = next k in record { slot = later.slot; among = inr later.among; passes = later.passes; operand = rw e later.operand }
+  by false e (inr k) next =
+      let later = next k in
+      record { slot = later.slot; among = inr later.among; passes = later.passes; operand = rw e later.operand }
 
 -- there is such a slot, or none passes and there is no operand
 pub first_or_none : (is : Slot → Bool) (f : Slot → OperandMeaning) (slots : List Slot)
@@ -61,7 +63,8 @@ found is f slots h = elim (first_or_none is f slots)
 
 module _ (index_bank : RegisterBank) (r v reg : ℕ) (e : Target) (imm : ℕ) where
   -- what the first slot of each kind says
-  pub g_given : (slot : Slot) → names_g slot ≡ true → number_of (slot_operand index_bank r v reg e imm slot) ≡ reg + 8 * r
+  pub g_given : (slot : Slot) → names_g slot ≡ true
+      → number_of (slot_operand index_bank r v reg e imm slot) ≡ reg + 8 * r
   g_given (G bank) h = refl
   g_given (V bank) h = cc
   g_given (E bank) h = cc

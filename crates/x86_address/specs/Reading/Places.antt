@@ -192,6 +192,19 @@ take_sib-written mode rm bytes m r ok =
     (grind (arith, nat_tests)) read.left)
     (λ based. take_scaled-written mode sib after m read.is_byte based read.left)))
 
+-- a place in memory
+take_memory-written : (mode rm : ℕ) (bytes : List ℕ) → mode < 3 → rm < 8 → IsBytes bytes
+    → Answers (ReadsPlace mode rm bytes) (if rm == 4 then take_sib mode bytes
+    else if mode == 0 && rm == 5 then take_rip_based bytes
+    else take_based mode rm bytes)
+take_memory-written mode rm bytes m r ok =
+    Answers-if _ _ _ _ (λ four. take_sib-written mode rm bytes m (eqb-true rm 4 four) ok)
+    (λ other. Answers-if _ _ _ _ rip_based (λ based. take_based-written mode rm bytes m r (eqb-false rm 4 other) based
+    ok))
+  where
+    rip_based : (mode == 0 && rm == 5) ≡ true → Answers (ReadsPlace mode rm bytes) (take_rip_based bytes)
+    rip_based rip = take_rip_based-written mode rm bytes (grind (arith, nat_tests)) (grind (arith, nat_tests)) ok
+
 -- what is read as a place stood first
 pub take_place-written : (mode rm : ℕ) (bytes : List ℕ) → mode < 4 → rm < 8 → IsBytes bytes
     → Answers (ReadsPlace mode rm bytes) (take_place mode rm bytes)
@@ -203,7 +216,7 @@ take_place-written mode rm bytes m r ok =
       kind_is = ap (λ test. if test then InRegister else InMemory) (sym three);
       written = refl;
       left = ok;
-    })) (λ memory. let below : mode < 3 = omega (arith, eqb-false mode 3 memory) in Answers-if _ _ _ _ (λ four. take_sib-written mode rm bytes below (eqb-true rm 4 four) ok) (λ other. Answers-if _ _ _ _ (λ rip. take_rip_based-written mode rm bytes (grind (arith, nat_tests)) (grind (arith, nat_tests)) ok) (λ based. take_based-written mode rm bytes below r (eqb-false rm 4 other) based ok)))
+    })) (λ memory. take_memory-written mode rm bytes (omega (arith, m, eqb-false mode 3 memory)) r ok)
 
 -- what is read has a ModRM byte, and with it those are the bytes of the place
 pub read_has_modrm : (mode rm : ℕ) (bytes : List ℕ) (p : Place) (rest : List ℕ) → ReadsPlace mode rm bytes p rest
@@ -331,6 +344,8 @@ with_modrm kind has = λ none. grind arith
 -- reading and spelling are one
 pub reading_is_spelling : ReadingIsSpelling
 reading_is_spelling modrm bytes p rest below ok = (
-  (λ h. let read = modrm-written modrm bytes below ok p rest h in (read.is_place, with_modrm _ read.has_modrm, read.written)),
+  λ h.
+      let read = modrm-written modrm bytes below ok p rest h in
+      (read.is_place, with_modrm _ read.has_modrm, read.written),
   (λ h. read_modrm modrm bytes p rest below h.0 (has_modrm p h.1) h.2),
 )

@@ -47,7 +47,9 @@ go c i bs h e inv =
 
 at_end : (c i : ℕ) (bs : List ℕ) → length bs ≤ i → cut c bs ≡ behind (take i bs) (cut c (drop i bs)) → None ≡ cut c bs
 unfolding cut
-at_end c i bs h inv = let none : drop i bs ≡ [] = drop_all i bs h in sym (inv ∙ ap (λ t. behind (take i bs) (cut c t)) none)
+at_end c i bs h inv =
+    let none : drop i bs ≡ [] = drop_all i bs h in
+    sym (inv ∙ ap (λ t. behind (take i bs) (cut c t)) none)
 
 pub returns-then-bytes-i : goal.returns-then-bytes-i
 returns-then-bytes-i c = stop _ _ _ c.loop-i-test.true c.if-bytes-i.true c.loop-i.invariant

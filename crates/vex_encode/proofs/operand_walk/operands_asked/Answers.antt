@@ -5,7 +5,13 @@ use Rattle.vex_encode.proofs.Fitting.{fit_drop, fit_length, fit_parts}
 use Rattle.vex_encode.proofs.operand_walk.operands_asked.Goals as goal
 
 pub returns-then-from-slots-clause-fit : goal.returns-then-from-slots-clause-fit
-returns-then-from-slots-clause-fit c = ((λ h. cc), (λ fit. let same = fit_length (kind_seen c.args.kind) c.args.index_bank c.args.slots.now c.args.instruction.now.meaning.operands fit in absurd (omega (arith, same))))
+returns-then-from-slots-clause-fit c = (
+  λ h. cc,
+  λ fit.
+      let operands = c.args.instruction.now.meaning.operands in
+      let same = fit_length (kind_seen c.args.kind) c.args.index_bank c.args.slots.now operands fit in
+      absurd (omega (arith, same)),
+)
 
 pub returns-then-not-put_before-clause-fit : goal.returns-then-not-put_before-clause-fit
 returns-then-not-put_before-clause-fit c =

@@ -5,7 +5,9 @@ use Rattle.vex_encode.proofs.Recoding.{canonical_there, recodes}
 use Rattle.vex_encode.proofs.recoder.recode_all.Goals as goal
 
 pub returns-in_err-instruction : goal.returns-in_err-instruction
-returns-in_err-instruction c = let p = err_from_is_err_and c.from_residual.result c.from_residual.ensures.1 in rw (p.1, p.2) c.in_err-instruction.ensures.refused
+returns-in_err-instruction c =
+    let p = err_from_is_err_and c.from_residual.result c.from_residual.ensures.1 in
+    rw (p.1, p.2) c.in_err-instruction.ensures.refused
 
 pub unreachable-requires : goal.unreachable-requires
 unreachable-requires c = canonical_there _ _ c.in_ok-instruction.ensures.spelled

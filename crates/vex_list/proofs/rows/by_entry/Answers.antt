@@ -15,4 +15,5 @@ pub returns : goal.returns
 returns c =
     let m = c.args.instruction.now.meaning in
     cover_fewer m c.args.previous.now _ _ _ _ (λ b. by_numbers m c.args.entry.now b)
-    (cover_to m c.args.previous.now 0 _ _ _ _ _ (omega (arith, c.row_choices-number-end.ensures)) c.loop-number.invariant)
+    (cover_to m c.args.previous.now 0 _ _ _ _ _ (omega (arith, c.row_choices-number-end.ensures))
+    c.loop-number.invariant)
