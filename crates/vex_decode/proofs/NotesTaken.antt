@@ -35,12 +35,6 @@ two_noted : (bytes : List ℕ) → (noted_rest C5 bytes).0 ≡ notes_on_two byte
 two_noted [] = refl
 two_noted (p ∷ rest) = ap (λ more. two_byte_notes p ++ more) (opcode_noted C5 (fields_of_two p) rest)
 
-map_noted : (map : Option Map) (p q : ℕ) (rest : List ℕ)
-    → ((noted_by_map map p q >> noted_opcode C4) rest).0 ≡ notes_by_map map p q rest
-map_noted None p q rest = refl
-map_noted (Some map) p q rest = ap (λ more. three_byte_notes p q ++ more)
-    (opcode_noted C4 (fields_of_three map p q) rest)
-
 three_noted : (bytes : List ℕ) → (noted_rest C4 bytes).0 ≡ notes_on_three bytes
 three_noted [] = refl
 three_noted (p ∷ []) = refl

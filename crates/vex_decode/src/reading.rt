@@ -1,8 +1,7 @@
 //! Reading an instruction over any reader, with its notes, but for the settings.
 
 ghost use Rattle.std.specs.Prelude.{◌≡◌, ◌<◌, IfOk, IfSome, find, true};
-ghost use Rattle.x86_address.specs.Reading.{take_byte};
-ghost use Rattle.x86_address.specs.Follows.{Same, Follows, Decides};
+ghost use Rattle.x86_address.specs.Follows.{Same, Decides};
 ghost use Rattle.vex_rows.specs.Row.{Among};
 ghost use Rattle.vex_rows.specs.Rules.{has_key};
 ghost use Rattle.vex_rows.specs.Table.{table};
@@ -24,16 +23,9 @@ use std::sync::ledger::{Blank, Ledger};
 use step_counter::Steps;
 use vex_forms::read_form_into;
 use vex_rows::{Entry, Key, Prefix, lookup};
+use x86_address::read_byte;
 use x86_operand::{DecodeError, FieldDescription, Instruction};
 use x86_reader::{DescriptionSink, Reader};
-
-/// One byte.
-#[tactic(auto, using(x86_address::specs::Follows::Lemmas::follows_byte, x86_address::specs::Follows::Lemmas::lacks_byte))]
-fn read_byte<R: Reader>(words: &mut R) -> Result<u8, DecodeError>
-    ensures { Follows take_byte Same (R.state words.old) (R.state words.new) result }
-{
-    words.next().map_err(|_| DecodeError::ExhaustedInput)
-}
 
 /// The prefix after its first byte C5.
 fn read_second_byte<R: Reader, S: DescriptionSink<FieldDescription>>(

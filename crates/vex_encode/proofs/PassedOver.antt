@@ -15,7 +15,7 @@ use Rattle.vex_rows.specs.declared.form.Form.TheVariants as form_name
 use Rattle.vex_rows.specs.FormRows.{form_row}
 use Rattle.vex_rows.specs.Groups.{groups}
 use Rattle.vex_rows.specs.Rules.{allows}
-use Rattle.vex_rows.specs.Row.{Row, Among, rows, exists, opcode_of, row_at, group_opcode, is_memory}
+use Rattle.vex_rows.specs.Row.{Row, Among, exists, opcode_of, row_at, group_opcode, is_memory}
 use Rattle.vex_rows.specs.Row.{choices_of_kind, choices_of_l, kinds_of, group_choices}
 use Rattle.vex_rows.specs.Row.Lists.{both-parts, from-flat_map, from-map, from-list_all}
 use Rattle.vex_forms.specs.declared.slot.Slot.TheVariants as slot

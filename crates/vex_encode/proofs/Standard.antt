@@ -121,10 +121,6 @@ imm_fits : (has : Bool) (operand : OperandMeaning) → (has ≡ false → operan
 imm_fits true operand h = imm_below operand
 imm_fits false operand h = ap imm_of (h refl)
 
--- whether no slot passes a test
-none_of : (b : Bool) → not b ≡ true → b ≡ false
-none_of b h = not_false b h
-
 -- without an immediate byte no slot reads one
 no_immediates : (slots : List _) → immediates slots ≤ 0 → list_any names_imm slots ≡ false
 no_immediates [] h = refl
@@ -367,10 +363,6 @@ true_or_false : (b c : Bool) → (b ≡ true → c ≡ true) → c ≡ false →
 true_or_false true c h e = cc (h refl)
 true_or_false false c h e = refl
 
-prefix_length : (f : Fields) (form : PrefixForm) → 2 ≤ length (prefix_bytes form f)
-prefix_length f C5 = omega arith
-prefix_length f C4 = omega arith
-
 -- a two-byte prefix is chosen wherever the two-byte prefix said the fields
 shorter_prefix : (f g : Fields) (form : PrefixForm) → CanSay form g → (FitsTwoBytes g → fits_two_bytes f ≡ true)
     → length (prefix_bytes (shortest_form f) f) ≤ length (prefix_bytes form g)
@@ -394,10 +386,6 @@ bytes_length row s =
     (omega (arith, length-append (place_bytes s.reg s.place) (imm_bytes (has_imm row) s.imm)))
 
 module _ (row : Row) (s : Syntax) (is_row : IsRow row) (is : IsSyntax row s) where
-  -- the parts that are put together for the meaning of s
-  made : Syntax
-  made = candidate row (meant row s)
-
   place_no_longer : length (place_bytes (candidate row (meant row s)).reg (candidate row (meant row s)).place) ≤ length
       (place_bytes s.reg s.place)
   unfolding candidate gives

@@ -14,7 +14,7 @@ use vex_forms::{Choice, Kind, Slot};
 use x86_operand::{Address, Index, Instruction, Operand, RegSpec, RegisterBank};
 
 /// Whether a register is one of the sixteen of a bank that a prefix can name.
-fn register_fits(bank: RegisterBank, reg: RegSpec) -> bool
+pub fn register_fits(bank: RegisterBank, reg: RegSpec) -> bool
     ensures { IsTrue result ↔ RegisterFits bank reg }
 {
     reg.bank() == bank && reg.num() <= 15

@@ -11,7 +11,7 @@ ghost use Rattle.vex_encode.specs.Conditions.{OperandFits, OperandsFit};
 ghost use Rattle.vex_forms.specs.Reads.{kind_seen};
 ghost use Rattle.vex_encode.specs.Standard.{imm_of};
 
-use crate::fits::placed_fits;
+use crate::fits::{placed_fits, register_fits};
 use vex_forms::{Kind, Slot};
 use x86_operand::{Instruction, Operand, RegisterBank};
 
@@ -22,13 +22,7 @@ fn number_at(bank: RegisterBank, operand: Operand) -> Option<u8>
     ensures within { IfSome result (λ num. num ≤ 15) }
 {
     match operand {
-        Operand::Register { reg } => {
-            if reg.bank() == bank && reg.num() <= 15 {
-                Some(reg.num())
-            } else {
-                None
-            }
-        }
+        Operand::Register { reg } if register_fits(bank, reg) => Some(reg.num()),
         _ => None,
     }
 }

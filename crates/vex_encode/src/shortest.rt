@@ -20,8 +20,8 @@ use x86_operand::{EncodeError, Instruction};
 /// - No row of the opcode has the number of its operands, their kinds and banks, and its memory size.
 /// - A register's number passes 15.
 /// - An address has a base that is neither of bank `Q` nor the instruction pointer, or an index beside the instruction
-///   pointer, or an index of another bank than the row's, or one with the number 4, or a scale other than 1, 2, 4
-///   and 8.
+///   pointer, or an index of another bank than the row's, or a scale other than 1, 2, 4 and 8. Where the row's index is
+///   a vector register, it isn't there; where not, it has the number 4.
 #[tactic(auto, using(crate::proofs::Canon::canon_spells, crate::proofs::Canon::none_spells, crate::proofs::Canon::never_none))]
 pub fn encode_shortest<L: Ledger>(
     instruction: &Instruction,

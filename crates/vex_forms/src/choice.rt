@@ -19,8 +19,11 @@ use x86_operand::Opcode;
 /// An entry at one W, one L, one kind of the operand E, and one reg field where its form has groups.
 #[derive(Clone, Copy, Debug)]
 pub struct Choice {
+    /// The entry.
     pub entry: Entry,
+    /// The bit W.
     pub w: bool,
+    /// The bit L.
     pub l: bool,
     /// Whether the operand E is in memory.
     pub memory: bool,

@@ -2,10 +2,11 @@
 //! docs/DIFFERENCES.md names.
 
 use crate::wanted::{Asked, lines, wanted};
-use crate::{Choice, Kind, laws, layout};
+use crate::{Choice, Kind, OperandE, OperandFields, instruction_of, layout};
 use std::process::Abort;
+use std::test::Fail;
 use vex_rows::{Entry, Form, Map, Pp, Rule};
-use x86_operand::Opcode;
+use x86_operand::{Opcode, Operand, RegSpec, RegisterBank};
 
 /// An entry of that form and opcode, which every W and L allow. Where it stands plays no part in its layout.
 fn entry(form: Form, opcode: Opcode) -> Entry {
@@ -94,8 +95,21 @@ fn rows_and_modrm_bytes_have_kinds(rt: HostRuntime) {
 }
 
 #[test]
-fn laws_can_be_called() {
-    laws::slots_are_few();
-    laws::slots_fit_steps();
-    laws::rows_are_choices();
+fn an_instruction_is_made_of_a_layout(rt: HostRuntime) -> Result<(), Fail> {
+    let sum = entry(Form::G_V_E_xyLmm, Opcode::VADDPS);
+    let row = layout(&sum, false, true, false, 0).ok_or("a row")?;
+    let fields = OperandFields {
+        r: true,
+        vvvv: 9,
+        reg: 2,
+        e: OperandE::Register(3),
+        imm: 0,
+    };
+    let made = instruction_of(&row, &fields);
+    assert_eq!(rt; (made.opcode(), made.len()), (Opcode::VADDPS, 0));
+    for (i, num) in [(0, 10), (1, 9), (2, 3)] {
+        let reg = RegSpec::of(RegisterBank::Y, num).ok_or("a register")?;
+        assert_eq!(rt; made.operand(i), Operand::Register { reg });
+    }
+    Ok(())
 }

@@ -25,12 +25,19 @@ pub enum Rule {
 /// operand decides.
 #[derive(Clone, Copy, PartialEq, Eq, Debug, Default)]
 pub struct Entry {
+    /// The opcode map.
     pub map: Map,
+    /// The implied prefix.
     pub pp: Pp,
+    /// The opcode byte.
     pub byte: u8,
+    /// What it asks of W.
     pub w: Rule,
+    /// What it asks of L.
     pub l: Rule,
+    /// The form of its operands.
     pub form: Form,
+    /// The opcode that it announces.
     pub opcode: Opcode,
 }
 

@@ -13,9 +13,13 @@ use x86_operand::Opcode;
 /// The bank of a register, as a form names it.
 #[derive(Clone, Copy, PartialEq, Eq, Debug)]
 pub enum BankRule {
+    /// x.
     X,
+    /// y.
     Y,
+    /// d.
     D,
+    /// q.
     Q,
     /// x with L 0, y with L 1.
     ByL,

@@ -62,23 +62,36 @@ impl Pp {
 /// and 2.3.7).
 #[derive(Clone, Copy, PartialEq, Eq, Debug)]
 pub struct Key {
+    /// The opcode map.
     pub map: Map,
+    /// The implied prefix.
     pub pp: Pp,
+    /// The opcode byte.
     pub byte: u8,
+    /// The bit W.
     pub w: bool,
+    /// The bit L.
     pub l: bool,
 }
 
 /// The fields of a VEX prefix, those that stand inverted in its bytes put right (Intel SDM volume 2, sections 2.3.5 and
-/// 2.3.6). `vvvv` is a register number from 0 to 15.
+/// 2.3.6).
 #[derive(Clone, Copy, PartialEq, Eq, Debug)]
 pub struct Prefix {
+    /// The opcode map.
     pub map: Map,
+    /// The implied prefix.
     pub pp: Pp,
+    /// The bit W: operands of 64 bits, or a part of the opcode.
     pub w: bool,
+    /// The bit L: vectors of 256 bits.
     pub l: bool,
+    /// The bit R, which is bit 3 of the number in the field reg.
     pub r: bool,
+    /// The bit X, which is bit 3 of an index's number.
     pub x: bool,
+    /// The bit B, which is bit 3 of the number in the field rm, or of a base's.
     pub b: bool,
+    /// The number of a register, from 0 to 15.
     pub vvvv: u8,
 }

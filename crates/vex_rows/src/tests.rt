@@ -6,7 +6,7 @@ ghost use Rattle.vex_rows.specs.Table.{table};
 use crate::Check::{Group, L0, Mem, Reg, V0, VifMem};
 use crate::wanted::wanted;
 use crate::{
-    Check, Entry, Form, Key, Map, Pp, entries_of, entry_at, entry_count, laws, lookup, row_of_form,
+    Check, Entry, Form, Key, Map, Pp, entries_of, entry_at, entry_count, lookup, row_of_form,
 };
 use arrayvec::ArrayVec;
 use std::marker::Brand;
@@ -416,16 +416,4 @@ fn forms_have_their_groups(rt: HostRuntime) -> Result<(), Fail> {
     assert!(rt; !row_of_form(Form::G_V_E).has_groups());
     assert!(rt; !row_of_form(Form::G_V_E).is_group(1));
     Ok(())
-}
-
-#[test]
-fn laws_can_be_called() {
-    laws::keys_are_apart();
-    laws::table_is_in_order();
-    laws::rows_have_entries();
-    laws::entries_have_rows();
-    laws::forms_are_in_order();
-    laws::forms_are_orderly();
-    laws::groups_are_fields();
-    laws::gathers_are_checked();
 }

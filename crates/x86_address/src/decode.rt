@@ -114,9 +114,9 @@ pub fn read_imm<R: Reader>(words: &mut R) -> Result<u8, DecodeError>
     read_byte(words)
 }
 
-// One byte.
+/// Reads one byte of an instruction. Numbers and errors are as `read_imm` has them, which is this for the last byte.
 #[tactic(auto, using(crate::specs::Follows::Lemmas::follows_byte, crate::specs::Follows::Lemmas::lacks_byte))]
-fn read_byte<R: Reader>(words: &mut R) -> Result<u8, DecodeError>
+pub fn read_byte<R: Reader>(words: &mut R) -> Result<u8, DecodeError>
     ensures { Follows take_byte Same (R.state words.old) (R.state words.new) result }
 {
     words.next().map_err(|_| DecodeError::ExhaustedInput)

@@ -32,7 +32,7 @@ mod encode;
 mod example;
 pub mod laws;
 
-pub use decode::{read_address, read_imm, read_modrm, read_vector_address};
+pub use decode::{read_address, read_byte, read_imm, read_modrm, read_vector_address};
 pub use encode::{AddressBytes, shortest_address, shortest_vector_address};
 
 #[cfg(test)]

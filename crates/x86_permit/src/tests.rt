@@ -25,6 +25,7 @@ const BASELINE: [u8; 11] = [12, 13, 14, 15, 17, 18, 20, 21, 22, 23, 109];
 fn with_bits(settings: InstDecoder, bits: &[u8]) -> InstDecoder {
     let mut settings = settings;
     for &bit in bits {
+        // The lists above hold no others.
         if bit < 128 {
             settings = settings.with_bit(bit);
         }

@@ -10,7 +10,7 @@ ghost use Rattle.x86_settings.specs.Words.{bits};
 
 use std::marker::Model;
 
-/// The settings that an instruction is decoded by: 128 bits, each for an extension of x86 or a quirk.
+/// The settings that an instruction is decoded by: 128 bits, of which 102 are for extensions of x86 or for quirks.
 /// Contracts see them as the list of 128 truth values, bit 0 first. Which of them permit an opcode is stated in
 /// `x86_permit`; the others change no answer.
 #[derive(Clone, Copy, Debug)]

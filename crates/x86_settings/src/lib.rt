@@ -1,4 +1,4 @@
-//! The settings of the decoder: which extensions of x86 it knows, one bit for each.
+//! The settings of the decoder: which extensions of x86 it knows, by bits, of which a few are shared.
 //!
 //! ```
 //! use x86_settings::InstDecoder;

@@ -43,11 +43,24 @@ fn other_texts_name_no_profile(rt: HostRuntime) {
 
 #[test]
 fn oddities_are_kept(rt: HostRuntime) {
-    let skylake = intel::skylake().with_avx512_f().with_avx512_dq();
+    let with_two_parts = intel::skylake().with_avx512_f().with_avx512_dq();
     let rows = [
-        ("skylake, avx512_f", skylake.avx512_f(), true),
-        ("skylake, avx512_dq", skylake.avx512_dq(), true),
-        ("skylake, avx512", skylake.avx512(), false),
+        ("skylake, avx512_f", intel::skylake().avx512_f(), false),
+        (
+            "two parts of avx512, avx512_f",
+            with_two_parts.avx512_f(),
+            true,
+        ),
+        (
+            "two parts of avx512, avx512_dq",
+            with_two_parts.avx512_dq(),
+            true,
+        ),
+        (
+            "two parts of avx512, avx512",
+            with_two_parts.avx512(),
+            false,
+        ),
         ("k10, cmov", amd::k10().cmov(), true),
         ("bulldozer, cmov", amd::bulldozer().cmov(), false),
         ("zen, cmov", amd::zen().cmov(), false),

@@ -191,9 +191,6 @@ same_meaning_refl a =
     (same_operands_refl a.operands))
     ((size_decides a.size a.size).1 refl)
 
-pub same_meaning_decides : (a b : Meaning) → Decides (same_meaning a b) (a ≡ b)
-same_meaning_decides = decides same_meaning same_meaning_equal same_meaning_refl
-
 pub same_decoded_equal : (a b : Decoded) → same_decoded a b ≡ true → a ≡ b
 unfolding same_decoded
 same_decoded_equal a b h =
@@ -215,14 +212,3 @@ pub ruleset address_parts = (same_register_decides, base_decides, indexed_decide
 
 -- for a comparison of instructions by their parts
 pub ruleset meaning_parts = (written_decides, size_decides, equal_meanings)
-
--- for callers that compare behind references, as `a == b` at two `&Address`
-pub ruleset sames = (
-  same_register_decides,
-  same_index_decides,
-  same_address_decides,
-  same_operand_decides,
-  same_operands_decides,
-  same_meaning_decides,
-  same_decoded_decides,
-)
