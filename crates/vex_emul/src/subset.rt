@@ -103,7 +103,10 @@ impl<'a> Machine<'a> {
     {
         match operand {
             Operand::Register { reg } => vector_operand(wide, reg),
-            _ => self.memory_operand(operand.address()?),
+            _ => match operand.address() {
+                Some(address) => self.memory_operand(address),
+                None => None,
+            },
         }
     }
 
@@ -181,7 +184,10 @@ impl<'a> Machine<'a> {
     {
         match dest {
             Operand::Register { reg } => self.move_to(reg, source),
-            _ => self.move_from(dest.address()?, source),
+            _ => match dest.address() {
+                Some(address) => self.move_from(address, source),
+                None => None,
+            },
         }
     }
 
