@@ -127,15 +127,11 @@ fn append_operand(buffer: &mut ArrayString<MAX_TEXT>, operand: &Operand)
             buffer.push_str("u");
             append_byte(buffer, *imm);
         }
-        Operand::MemDeref { base } => append_address(
-            buffer,
-            &Address {
-                base: Some(*base),
-                index: None,
-                disp: 0,
-            },
-        ),
-        Operand::Memory { address } => append_address(buffer, address),
+        Operand::MemDeref { .. } | Operand::Memory { .. } => {
+            if let Some(address) = operand.address() {
+                append_address(buffer, &address);
+            }
+        }
         Operand::Nothing => buffer.push_str("nothing"),
     }
 }

@@ -1,3 +1,5 @@
+//! The bytes that given texts assemble to, and the errors of others.
+
 use crate::{AsmError, assemble, assemble_instruction, meaning_of_line, print, text_assembles};
 use x86_settings::InstDecoder;
 
@@ -59,7 +61,7 @@ static UNSPELLED: [&str; 13] = [
 ];
 
 #[test]
-fn assembles_texts(rt: HostRuntime) {
+fn a_text_assembles_to_its_canonical_bytes(rt: HostRuntime) {
     for (text, want) in TEXTS.iter() {
         match assemble(text.as_bytes()) {
             Ok(spelling) => assert_eq!(rt; spelling.as_slice(), *want, "{text}"),
@@ -71,7 +73,7 @@ fn assembles_texts(rt: HostRuntime) {
 }
 
 #[test]
-fn answers_the_instruction_too(rt: HostRuntime) {
+fn the_instruction_is_answered_with_its_bytes(rt: HostRuntime) {
     match assemble_instruction(b"\tVMOVAPS y0  mq5/-/0 32\r") {
         Ok((instruction, spelling)) => {
             assert_eq!(rt; print(&instruction).as_str(), "VMOVAPS y0 mq5/-/0 32");
@@ -83,7 +85,7 @@ fn answers_the_instruction_too(rt: HostRuntime) {
 }
 
 #[test]
-fn refuses_what_no_bytes_spell(rt: HostRuntime) {
+fn a_text_that_no_bytes_spell_has_no_spelling(rt: HostRuntime) {
     for text in UNSPELLED.iter() {
         assert_eq!(rt;
             assemble(text.as_bytes()).err(),
@@ -94,7 +96,7 @@ fn refuses_what_no_bytes_spell(rt: HostRuntime) {
 }
 
 #[test]
-fn refuses_what_is_no_text(rt: HostRuntime) {
+fn what_is_no_text_does_not_assemble(rt: HostRuntime) {
     for text in ["VMOVAPS y0 mq5/-/00 32", "VFOO 0", "", "VADDPS"] {
         assert_eq!(rt;
             assemble(text.as_bytes()).err(),

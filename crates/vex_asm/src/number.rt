@@ -3,14 +3,17 @@
 ghost use Rattle.std.specs.Prelude.{◌≡◌, ◌<◌, IfSome};
 ghost use Rattle.vex_asm.specs.Parsed.{number_of, digits_on, byte_of, signed_of, signed_byte_of, displacement_of};
 
+/// What numbers in a text are below: 10^10, more than each number that has a place in a meaning.
+const LIMIT: u64 = 10_000_000_000;
+
 // The number of digits, where it is below 10^10.
 fn digits(bytes: &[u8]) -> Option<u64>
     ensures value { result ≡ digits_on 0 bytes.now }
-    ensures below { IfSome result (λ number. number < 10000000000) }
+    ensures below { IfSome result (λ number. number < LIMIT) }
 {
     let mut number: u64 = 0;
     for byte in bytes {
-        if !byte.is_ascii_digit() || number >= 1_000_000_000 {
+        if !byte.is_ascii_digit() || number >= LIMIT / 10 {
             return None;
         }
         number = number * 10 + u64::from(*byte - b'0');
@@ -22,7 +25,7 @@ fn digits(bytes: &[u8]) -> Option<u64>
 #[tactic(auto, unfolding(crate::specs::Parsed::number_of))]
 pub fn number(bytes: &[u8]) -> Option<u64>
     ensures value { result ≡ number_of bytes.now }
-    ensures below { IfSome result (λ number. number < 10000000000) }
+    ensures below { IfSome result (λ number. number < LIMIT) }
 {
     match bytes {
         [] | [b'0', _, ..] => None,
@@ -35,10 +38,7 @@ pub fn number(bytes: &[u8]) -> Option<u64>
 pub fn byte(bytes: &[u8]) -> Option<u8>
     ensures { result ≡ byte_of bytes.now }
 {
-    match number(bytes) {
-        Some(number) if number < 256 => Some(number as u8),
-        _ => None,
-    }
+    u8::try_from(number(bytes)?).ok()
 }
 
 // The signed number of a text, where it is between -10^10 and 10^10.
@@ -66,10 +66,7 @@ fn signed(bytes: &[u8]) -> Option<i64>
 pub fn signed_byte(bytes: &[u8]) -> Option<i8>
     ensures { result ≡ signed_byte_of bytes.now }
 {
-    match signed(bytes) {
-        Some(number) if -128 <= number && number <= 127 => Some(number as i8),
-        _ => None,
-    }
+    i8::try_from(signed(bytes)?).ok()
 }
 
 /// The signed number of a text, where it has 32 bits.
@@ -77,8 +74,5 @@ pub fn signed_byte(bytes: &[u8]) -> Option<i8>
 pub fn displacement(bytes: &[u8]) -> Option<i32>
     ensures { result ≡ displacement_of bytes.now }
 {
-    match signed(bytes) {
-        Some(number) if -2147483648 <= number && number <= 2147483647 => Some(number as i32),
-        _ => None,
-    }
+    i32::try_from(signed(bytes)?).ok()
 }

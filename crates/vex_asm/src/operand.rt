@@ -98,11 +98,11 @@ fn index(bytes: &[u8]) -> Option<Option<Index>>
 fn address(bytes: &[u8]) -> Option<Address>
     ensures { result ≡ address_of bytes.now }
 {
-    let (first, rest) = cut(bytes, b'/')?;
-    let (second, third) = cut(rest, b'/')?;
-    let base = base(first)?;
-    let index = index(second)?;
-    let disp = displacement(third)?;
+    let (base_text, rest) = cut(bytes, b'/')?;
+    let (index_text, displacement_text) = cut(rest, b'/')?;
+    let base = base(base_text)?;
+    let index = index(index_text)?;
+    let disp = displacement(displacement_text)?;
     Some(Address { base, index, disp })
 }
 

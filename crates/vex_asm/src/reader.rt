@@ -44,14 +44,8 @@ fn head(word: &[u8]) -> Option<(bool, Opcode)>
         → result ≡ Some (evex, opcode) }
 {
     match word.strip_prefix(b"EVEX.".as_slice()) {
-        Some(name) => match opcode(name) {
-            Some(opcode) => Some((true, opcode)),
-            None => None,
-        },
-        None => match opcode(word) {
-            Some(opcode) => Some((false, opcode)),
-            None => None,
-        },
+        Some(name) => Some((true, opcode(name)?)),
+        None => Some((false, opcode(word)?)),
     }
 }
 
@@ -105,8 +99,5 @@ pub fn read(line: &[u8]) -> Result<Instruction, AsmError>
     ensures again { (m : Meaning) → IsMeaning m → text m ≡ line.now → result ≡ Ok (record { meaning = m; len = 0 }) }
     ensures refused { IfErr result (λ error. (error ≡ BadText) × ((m : Meaning) → IsTextOf line.now m → ⊥)) }
 {
-    match instruction_of(line) {
-        Some(instruction) => Ok(instruction),
-        None => Err(AsmError::BadText),
-    }
+    instruction_of(line).ok_or(AsmError::BadText)
 }

@@ -1,3 +1,5 @@
+//! What texts of meanings are printed and read, and what is no text.
+
 use crate::{
     AsmError, MAX_TEXT, append, append_name, append_number, append_register, print, read,
     texts_are_words, texts_differ,
@@ -10,7 +12,7 @@ use x86_operand::{
 };
 
 #[test]
-fn prints_and_reads_texts(rt: HostRuntime) {
+fn a_text_is_printed_as_it_was_read(rt: HostRuntime) {
     for text in [
         "VADDPS x0 x1 x2 0",
         "VMOVAPS y0 mq5/-/0 32",
@@ -40,7 +42,7 @@ fn prints_and_reads_texts(rt: HostRuntime) {
 }
 
 #[test]
-fn means_what_the_text_says(rt: HostRuntime) {
+fn a_text_means_what_its_words_say(rt: HostRuntime) {
     let x = |n| RegSpec::of(RegisterBank::X, n).unwrap_or(RegSpec::rax());
     let operands = [
         Operand::Register { reg: x(3) },
@@ -74,7 +76,7 @@ fn means_what_the_text_says(rt: HostRuntime) {
 }
 
 #[test]
-fn appends_behind_what_is_there(rt: HostRuntime) {
+fn text_is_appended_behind_what_is_there(rt: HostRuntime) {
     let mut text = ArrayString::<MAX_TEXT>::new();
     append_number(&mut text, 18446744073709551615);
     append_name(&mut text, Opcode::VADDPS);
@@ -84,7 +86,7 @@ fn appends_behind_what_is_there(rt: HostRuntime) {
 }
 
 #[test]
-fn passes_over_blanks(rt: HostRuntime) {
+fn blanks_around_words_mean_nothing(rt: HostRuntime) {
     let want = read(b"VMOVAPS y0 mq5/-/0 32");
     assert!(rt; want.is_ok());
     assert!(rt; read(b" VMOVAPS  y0 mq5/-/0 32") == want);
@@ -103,7 +105,7 @@ fn refused(rt: &impl Abort, texts: &[&str]) {
 }
 
 #[test]
-fn refuses_other_opcodes(rt: HostRuntime) {
+fn a_word_that_names_no_opcode_is_refused(rt: HostRuntime) {
     refused(
         &rt,
         &[
@@ -122,7 +124,7 @@ fn refuses_other_opcodes(rt: HostRuntime) {
 }
 
 #[test]
-fn refuses_other_sizes_and_counts(rt: HostRuntime) {
+fn a_wrong_size_and_a_fifth_operand_are_refused(rt: HostRuntime) {
     refused(
         &rt,
         &[
@@ -138,7 +140,7 @@ fn refuses_other_sizes_and_counts(rt: HostRuntime) {
 }
 
 #[test]
-fn refuses_other_registers(rt: HostRuntime) {
+fn a_register_that_no_bank_has_is_refused(rt: HostRuntime) {
     refused(
         &rt,
         &[
@@ -157,7 +159,7 @@ fn refuses_other_registers(rt: HostRuntime) {
 }
 
 #[test]
-fn refuses_other_immediates(rt: HostRuntime) {
+fn an_immediate_out_of_range_is_refused(rt: HostRuntime) {
     refused(
         &rt,
         &[
@@ -174,7 +176,7 @@ fn refuses_other_immediates(rt: HostRuntime) {
 }
 
 #[test]
-fn refuses_other_addresses(rt: HostRuntime) {
+fn an_address_in_another_form_is_refused(rt: HostRuntime) {
     refused(
         &rt,
         &[
@@ -201,13 +203,13 @@ fn refuses_other_addresses(rt: HostRuntime) {
 }
 
 #[test]
-fn refuses_bytes_that_no_text_has(rt: HostRuntime) {
+fn bytes_that_no_text_has_are_refused(rt: HostRuntime) {
     refused(&rt, &["VADDPS\u{a0}0", "\u{e9} 0"]);
     assert!(rt; read(b"\xff 0").is_err());
 }
 
 #[test]
-fn names_errors(rt: HostRuntime) -> Result<(), Fail> {
+fn an_error_is_printed_by_its_name(rt: HostRuntime) -> Result<(), Fail> {
     for (error, want) in [
         (AsmError::BadText, "BadText"),
         (AsmError::NoSpelling, "NoSpelling"),

@@ -1,3 +1,4 @@
+pub mod InPlace
 pub mod LaneLemmas
 pub mod Padded
 pub mod Running

@@ -21,8 +21,8 @@ use Rattle.vex_emul.specs.Subset.{work_of}
 use Rattle.vex_emul.specs.Operation.{result_of}
 use Rattle.vex_emul.specs.Work.{size_of, low, fetched, stored, with_vector, and_then, combined, moved, upper_cleared}
 use Rattle.vex_emul.specs.Work.{after}
-use Rattle.vex_emul.specs.declared.work.Operand.{Operand}
-use Rattle.vex_emul.specs.declared.work.Operand.TheVariants.{Vector, Memory}
+use Rattle.vex_emul.specs.declared.work.Location.{Location}
+use Rattle.vex_emul.specs.declared.work.Location.TheVariants.{Vector, Memory}
 use Rattle.vex_emul.specs.declared.work.Work.{Work}
 use Rattle.vex_emul.specs.declared.work.Work.TheVariants.{Combine, Move, ZeroUpper, ZeroAll}
 use Rattle.vex_emul.specs.Run.{step, step_unless, step_read, step_by, step_into, ran, ran_from, ran_by}
@@ -91,7 +91,7 @@ module _ (settings : List Bool) (state : State) (bytes : List ℕ) (decoded : De
 
 -- ---- the memory keeps its length
 
-stored-room : (s next : State) (n : ℕ) (dest : Operand) (bytes : List ℕ) → stored s n dest bytes ≡ Some next
+stored-room : (s next : State) (n : ℕ) (dest : Location) (bytes : List ℕ) → stored s n dest bytes ≡ Some next
     → length next.memory ≡ length s.memory
 unfolding stored
 stored-room s next n (Vector i) bytes h =

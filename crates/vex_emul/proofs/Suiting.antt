@@ -18,8 +18,8 @@ use Rattle.vex_emul.specs.Machine.{general, base_part, index_part, sum_of, place
 use Rattle.vex_emul.specs.Subset.{vector_in, source_of, same_width, combine_of, combine_in, combine_on, move_of}
 use Rattle.vex_emul.specs.Subset.{move_to, move_from, work_of_kind, has_rip, is_rip_base}
 use Rattle.vex_emul.specs.declared.operation.Operation.{Operation}
-use Rattle.vex_emul.specs.declared.work.Operand.{Operand}
-use Rattle.vex_emul.specs.declared.work.Operand.TheVariants.{Memory}
+use Rattle.vex_emul.specs.declared.work.Location.{Location}
+use Rattle.vex_emul.specs.declared.work.Location.TheVariants.{Memory}
 use Rattle.vex_emul.specs.declared.subset.Kind.{Kind}
 use Rattle.vex_emul.specs.declared.subset.Kind.TheVariants.{ZeroesUpper, ZeroesAll, Moves, Combines}
 
@@ -155,7 +155,7 @@ module _ (q : List ℕ) (r v reg : ℕ) (e : Target) (imm : ℕ) (is_g : reg + 8
       ∙ on wide source)
       (source-exactly q wide e held))
     where
-      on : (wide : Bool) (o : Option Operand)
+      on : (wide : Bool) (o : Option Location)
           → is_some (combine_on operation (wide, reg + 8 * r) (wide, v) o) ≡ is_some o
       on true None = refl
       on true (Some o) = refl

@@ -18,8 +18,8 @@ use Rattle.vex_emul.specs.declared.operation.Operation.{Operation}
 use Rattle.vex_emul.specs.declared.operation.Operation.TheVariants.{Add, Subtract, Equal, And, AndNot, Or, Xor}
 use Rattle.vex_emul.specs.declared.subset.Kind.{Kind}
 use Rattle.vex_emul.specs.declared.subset.Kind.TheVariants.{ZeroesUpper, ZeroesAll, Moves, Combines}
-use Rattle.vex_emul.specs.declared.work.Operand.{Operand}
-use Rattle.vex_emul.specs.declared.work.Operand.TheVariants.{Vector, Memory}
+use Rattle.vex_emul.specs.declared.work.Location.{Location}
+use Rattle.vex_emul.specs.declared.work.Location.TheVariants.{Vector, Memory}
 use Rattle.vex_emul.specs.declared.work.Work.{Work}
 use Rattle.vex_emul.specs.declared.work.Work.TheVariants.{Combine, Move, ZeroUpper, ZeroAll}
 
@@ -56,19 +56,19 @@ abbrev pub same_bool : Bool → Bool → Bool
 same_bool true b = b
 same_bool false b = not b
 
--- the operand in that vector, where it is as wide as this
-abbrev pub same_width : Bool → Option (Bool × ℕ) → Option Operand
+-- that vector as a location, where it is as wide as this
+abbrev pub same_width : Bool → Option (Bool × ℕ) → Option Location
 same_width wide None = None
 same_width wide (Some v) = if same_bool v.0 wide then Some (Vector v.1) else None
 
--- an operand of an instruction whose vectors are as wide as this
-unfoldable pub source_of : List ℕ → Bool → OperandMeaning → Option Operand
+-- the location of an operand, in an instruction whose vectors are as wide as this
+unfoldable pub source_of : List ℕ → Bool → OperandMeaning → Option Location
 source_of q wide (register r) = same_width wide (vector_in r.bank r.num)
 source_of q wide (memory a) = option_map Memory (place_of q a)
 source_of q wide _ = None
 
 -- an operation with its result in the vector d, on the vector v and an operand, where the vectors are of one width
-abbrev pub combine_on : Operation → Bool × ℕ → Bool × ℕ → Option Operand → Option Work
+abbrev pub combine_on : Operation → Bool × ℕ → Bool × ℕ → Option Location → Option Work
 combine_on operation d v None = None
 combine_on operation d v (Some e) = if same_bool v.0 d.0 then Some (Combine operation d.0 d.1 v.1 e) else None
 

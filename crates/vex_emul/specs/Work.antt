@@ -5,8 +5,8 @@ use Rattle.std.specs.Simd.Lanes.{chunk, put_chunk}
 use Rattle.vex_emul.specs.Machine.{State}
 use Rattle.vex_emul.specs.Operation.{result_of}
 use Rattle.vex_emul.specs.declared.operation.Operation.{Operation}
-use Rattle.vex_emul.specs.declared.work.Operand.{Operand}
-use Rattle.vex_emul.specs.declared.work.Operand.TheVariants.{Vector, Memory}
+use Rattle.vex_emul.specs.declared.work.Location.{Location}
+use Rattle.vex_emul.specs.declared.work.Location.TheVariants.{Vector, Memory}
 use Rattle.vex_emul.specs.declared.work.Work.{Work}
 use Rattle.vex_emul.specs.declared.work.Work.TheVariants.{Combine, Move, ZeroUpper, ZeroAll}
 
@@ -18,8 +18,8 @@ size_of wide = if wide then 32 else 16
 abbrev pub low : State → ℕ → ℕ → List ℕ
 low s n i = take n (slice_index_or s.vectors i [])
 
--- the n bytes of an operand, unless it is in memory and doesn't lie wholly there
-unfoldable pub fetched : State → ℕ → Operand → Option (List ℕ)
+-- the n bytes at a location, unless they are in memory and don't lie wholly there
+unfoldable pub fetched : State → ℕ → Location → Option (List ℕ)
 fetched s n (Vector i) = Some (low s n i)
 fetched s n (Memory at) = if nat_le (at + n) (length s.memory) then Some (chunk at n s.memory) else None
 
@@ -27,8 +27,8 @@ fetched s n (Memory at) = if nat_le (at + n) (length s.memory) then Some (chunk 
 abbrev pub with_vector : State → ℕ → ℕ → List ℕ → State
 with_vector s n i bytes = record s { vectors = slice_set s.vectors i (bytes ++ replicate (32 - n) 0) }
 
--- the operand gets these n bytes, unless it is in memory and doesn't lie wholly there
-unfoldable pub stored : State → ℕ → Operand → List ℕ → Option State
+-- the location gets these n bytes, unless they go to memory and don't lie wholly there
+unfoldable pub stored : State → ℕ → Location → List ℕ → Option State
 stored s n (Vector i) bytes = Some (with_vector s n i bytes)
 stored s n (Memory at) bytes =
     if nat_le (at + n) (length s.memory) then Some (record s { memory = put_chunk at s.memory bytes }) else None
@@ -42,13 +42,13 @@ abbrev pub and_then : {A B : Type 0} → Option A → (A → Option B) → Optio
 and_then None f = None
 and_then (Some a) f = f a
 
--- the state after an operation on the low n bytes of a vector and an operand of n bytes
-unfoldable pub combined : State → Operation → ℕ → ℕ → ℕ → Operand → Option State
+-- the state after an operation on the low n bytes of a vector and n bytes at a location
+unfoldable pub combined : State → Operation → ℕ → ℕ → ℕ → Location → Option State
 combined s operation n dest first second =
     and_then (fetched s n second) (λ e. Some (with_vector s n dest (result_of operation n (low s n first) e)))
 
 -- the state after a copy of n bytes
-unfoldable pub moved : State → ℕ → Operand → Operand → Option State
+unfoldable pub moved : State → ℕ → Location → Location → Option State
 moved s n dest source = and_then (fetched s n source) (λ bytes. stored s n dest bytes)
 
 -- the state after an instruction, and none where an operand in memory doesn't lie wholly there
@@ -58,14 +58,14 @@ after s (Move wide dest source) = moved s (size_of wide) dest source
 after s ZeroUpper = Some (record s { vectors = map upper_cleared s.vectors })
 after s ZeroAll = Some (record s { vectors = replicate 16 (replicate 32 0) })
 
--- the machine has the vector of an operand
-abbrev pub IsOperand : Operand → Type 0
-IsOperand (Vector i) = i < 16
-IsOperand (Memory at) = Unit {0}
+-- the machine has the vector of a location
+abbrev pub IsLocation : Location → Type 0
+IsLocation (Vector i) = i < 16
+IsLocation (Memory at) = Unit {0}
 
 -- the machine has the vectors of an instruction
 abbrev pub IsWork : Work → Type 0
-IsWork (Combine operation wide dest first second) = (dest < 16) × (first < 16) × IsOperand second
-IsWork (Move wide dest source) = IsOperand dest × IsOperand source
+IsWork (Combine operation wide dest first second) = (dest < 16) × (first < 16) × IsLocation second
+IsWork (Move wide dest source) = IsLocation dest × IsLocation source
 IsWork ZeroUpper = Unit {0}
 IsWork ZeroAll = Unit {0}

@@ -32,5 +32,5 @@ mod tests;
 mod work;
 
 pub use laws::{steps, subset_exactly};
-pub use machine::Machine;
+pub use machine::{Machine, VECTOR_BYTES};
 pub use run::{Halt, HaltCause, run_code};

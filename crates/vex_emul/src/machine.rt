@@ -17,7 +17,7 @@ use x86_operand::{Address, Index, RegSpec, RegisterBank};
 const REGISTERS: usize = 16;
 
 /// The number of bytes of a vector.
-const VECTOR_BYTES: usize = 32;
+pub const VECTOR_BYTES: usize = 32;
 
 /// Sixteen vector registers of 32 bytes, sixteen numbers, which the general registers of 64 bits hold, and a memory,
 /// which is borrowed. Contracts see it as its vectors, each a list of bytes, its numbers and its memory.
@@ -100,7 +100,7 @@ impl<'a> Machine<'a> {
     pub fn reset(&mut self)
         ensures { self.new ≡ start_of self.old.memory }
     {
-        self.vectors = [[0; VECTOR_BYTES]; REGISTERS];
+        self.zero_all();
         self.q = [0; REGISTERS];
     }
 
@@ -211,7 +211,7 @@ impl<'a> Machine<'a> {
     pub(crate) fn zero_all(&mut self)
         ensures { self.new ≡ record self.old { vectors = replicate 16 (replicate 32 0) } }
     {
-        self.vectors = [[0; VECTOR_BYTES]; REGISTERS];
+        clear_all(&mut self.vectors);
     }
 }
 
@@ -221,6 +221,15 @@ fn clear_uppers(vectors: &mut [[u8; VECTOR_BYTES]])
 {
     for vector in vectors.iter_mut() {
         *vector = upper_cleared(vector);
+    }
+}
+
+// Sets all bytes of each vector to 0.
+fn clear_all(vectors: &mut [[u8; VECTOR_BYTES]])
+    ensures { vectors.new ≡ map (λ v. replicate 32 0) vectors.old }
+{
+    for vector in vectors.iter_mut() {
+        *vector = [0; VECTOR_BYTES];
     }
 }
 

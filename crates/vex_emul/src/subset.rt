@@ -2,15 +2,15 @@
 
 ghost use Rattle.std.specs.Prelude.{◌≡◌, ◌<◌, IfSome, option_map};
 ghost use Rattle.x86_operand.specs.Meaning.{operand_meaning, memory};
-ghost use Rattle.vex_emul.specs.declared.work.Operand.TheVariants.{Memory};
+ghost use Rattle.vex_emul.specs.declared.work.Location.TheVariants.{Memory};
 ghost use Rattle.vex_emul.specs.Machine.{place_of};
-ghost use Rattle.vex_emul.specs.Work.{IsOperand, IsWork};
+ghost use Rattle.vex_emul.specs.Work.{IsLocation, IsWork};
 ghost use Rattle.vex_emul.specs.Subset.{kind_of, vector_in, same_width, source_of, combine_of, move_of, move_to};
 ghost use Rattle.vex_emul.specs.Subset.{work_of};
 
 use crate::machine::Machine;
 use crate::operation::{Lane, Operation};
-use crate::work::{self, Work};
+use crate::work::{Location, Work};
 use x86_opcode::{IntegerOpcode, Opcode};
 use x86_operand::{Address, Instruction, Operand, RegSpec, RegisterBank};
 
@@ -72,38 +72,41 @@ fn vector_of(reg: RegSpec) -> Option<(bool, u8)>
     }
 }
 
-// The operand in a register, where it is as wide.
-fn vector_operand(wide: bool, reg: RegSpec) -> Option<work::Operand>
+// A register as a location, where it is as wide.
+fn vector_location(wide: bool, reg: RegSpec) -> Option<Location>
     ensures value { result ≡ same_width wide (vector_in reg.bank reg.num) }
-    ensures within { IfSome result IsOperand }
+    ensures within { IfSome result IsLocation }
 {
     let (is_wide, num) = vector_of(reg)?;
     if is_wide == wide {
-        Some(work::Operand::Vector { num })
+        Some(Location::Vector { num })
     } else {
         None
     }
 }
 
 impl<'a> Machine<'a> {
-    // The operand at an address.
-    fn memory_operand(&self, address: Address) -> Option<work::Operand>
+    // The location that an address means.
+    fn memory_location(&self, address: Address) -> Option<Location>
         ensures value { result ≡ option_map Memory (place_of self.now.q address) }
-        ensures within { IfSome result IsOperand }
+        ensures within { IfSome result IsLocation }
     {
         let place = self.place_of(address)?;
-        Some(work::Operand::Memory { place })
+        Some(Location::Memory { place })
     }
 
-    // An operand of an instruction whose vectors are as wide.
+    // The location of an operand, in an instruction whose vectors are as wide.
     #[tactic(auto, unfolding(crate::specs::Subset::source_of))]
-    fn source_of(&self, wide: bool, operand: Operand) -> Option<work::Operand>
+    fn source_of(&self, wide: bool, operand: Operand) -> Option<Location>
         ensures value { result ≡ source_of self.now.q wide (operand_meaning operand) }
-        ensures within { IfSome result IsOperand }
+        ensures within { IfSome result IsLocation }
     {
         match operand {
-            Operand::Register { reg } => vector_operand(wide, reg),
-            _ => self.memory_operand(operand.address()?),
+            Operand::Register { reg } => vector_location(wide, reg),
+            _ => match operand.address() {
+                Some(address) => self.memory_location(address),
+                None => None,
+            },
         }
     }
 
@@ -150,7 +153,7 @@ impl<'a> Machine<'a> {
         let source = self.source_of(wide, source)?;
         Some(Work::Move {
             wide,
-            dest: work::Operand::Vector { num },
+            dest: Location::Vector { num },
             source,
         })
     }
@@ -168,8 +171,8 @@ impl<'a> Machine<'a> {
         let (wide, num) = vector_of(reg)?;
         Some(Work::Move {
             wide,
-            dest: work::Operand::Memory { place },
-            source: work::Operand::Vector { num },
+            dest: Location::Memory { place },
+            source: Location::Vector { num },
         })
     }
 
@@ -181,7 +184,10 @@ impl<'a> Machine<'a> {
     {
         match dest {
             Operand::Register { reg } => self.move_to(reg, source),
-            _ => self.move_from(dest.address()?, source),
+            _ => match dest.address() {
+                Some(address) => self.move_from(address, source),
+                None => None,
+            },
         }
     }
 

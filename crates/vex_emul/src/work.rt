@@ -2,15 +2,15 @@
 
 ghost use Rattle.std.specs.Prelude.{◌≡◌, ◌<◌, ◌≤◌, Some, None, MatchBool};
 ghost use Rattle.vex_emul.specs.declared.work.Work.TheVariants.{Combine, Move};
-ghost use Rattle.vex_emul.specs.Work.{size_of, fetched, stored, combined, moved, after, IsOperand, IsWork};
+ghost use Rattle.vex_emul.specs.Work.{size_of, fetched, stored, combined, moved, after, IsLocation, IsWork};
 
 use crate::machine::Machine;
 use crate::operation::{Operation, result_16, result_32};
 use std::simd::prelude::*;
 
-/// An operand: a vector register by its number, or the memory from a place on.
+/// Where an operand is: in a vector register by its number, or in the memory from a place on.
 #[derive(Clone, Copy)]
-pub enum Operand {
+pub enum Location {
     /// A vector register.
     Vector {
         /// Its number, below 16.
@@ -36,17 +36,17 @@ pub enum Work {
         dest: u8,
         /// The vector register that is the first operand.
         first: u8,
-        /// The second operand.
-        second: Operand,
+        /// Where the second operand is.
+        second: Location,
     },
     /// A copy of an operand into another.
     Move {
         /// Whether the operands have 32 bytes.
         wide: bool,
-        /// What gets the bytes.
-        dest: Operand,
-        /// What has them.
-        source: Operand,
+        /// Where the bytes go.
+        dest: Location,
+        /// Where they are.
+        source: Location,
     },
     /// All vectors lose their bytes from 16 on.
     ZeroUpper,
@@ -55,16 +55,16 @@ pub enum Work {
 }
 
 impl<'a> Machine<'a> {
-    // The operand's bytes, or `None` where it is in memory and doesn't lie wholly there.
+    // The bytes there, or `None` where they are in memory and don't lie wholly there.
     #[tactic(auto, unfolding(crate::specs::Work::fetched))]
-    fn fetch<const N: usize>(&self, operand: Operand) -> Option<[u8; N]>
+    fn fetch<const N: usize>(&self, location: Location) -> Option<[u8; N]>
         requires size { N ≤ 32 }
-        requires operand { IsOperand operand }
-        ensures { result ≡ fetched self.now N operand }
+        requires location { IsLocation location }
+        ensures { result ≡ fetched self.now N location }
     {
-        match operand {
-            Operand::Vector { num } => Some(self.low::<N>(num).to_array()),
-            Operand::Memory { place } => {
+        match location {
+            Location::Vector { num } => Some(self.low::<N>(num).to_array()),
+            Location::Memory { place } => {
                 if self.has_room(place, N as u64) {
                     Some(self.load::<N>(place as usize).to_array())
                 } else {
@@ -74,21 +74,21 @@ impl<'a> Machine<'a> {
         }
     }
 
-    // Writes the bytes. `false`, and nothing is changed, where the operand is in memory and doesn't lie wholly there.
+    // Writes the bytes there. `false`, and nothing is changed, where they go to memory and don't lie wholly there.
     #[tactic(auto, unfolding(crate::specs::Work::stored))]
-    fn put<const N: usize>(&mut self, operand: Operand, value: Simd<u8, N>) -> bool
+    fn put<const N: usize>(&mut self, location: Location, value: Simd<u8, N>) -> bool
         requires size { N ≤ 32 }
-        requires operand { IsOperand operand }
+        requires location { IsLocation location }
         ensures { MatchBool result
-            (stored self.old N operand value.entry ≡ Some self.new)
-            ((stored self.old N operand value.entry ≡ None) × (self.new ≡ self.old)) }
+            (stored self.old N location value.entry ≡ Some self.new)
+            ((stored self.old N location value.entry ≡ None) × (self.new ≡ self.old)) }
     {
-        match operand {
-            Operand::Vector { num } => {
+        match location {
+            Location::Vector { num } => {
                 self.set_low(num, value);
                 true
             }
-            Operand::Memory { place } => {
+            Location::Memory { place } => {
                 if self.has_room(place, N as u64) {
                     self.store(place as usize, value);
                     true
@@ -108,7 +108,7 @@ impl<'a> Machine<'a> {
         wide: bool,
         dest: u8,
         first: u8,
-        second: Operand,
+        second: Location,
     ) -> bool
         requires { IsWork (Combine operation wide dest first second) }
         ensures { MatchBool result
@@ -134,7 +134,7 @@ impl<'a> Machine<'a> {
     // Copies an operand into another. `false`, and nothing is changed, where one of them is in memory and doesn't lie
     // wholly there.
     #[tactic(auto, unfolding(crate::specs::Work::moved))]
-    fn copy(&mut self, wide: bool, dest: Operand, source: Operand) -> bool
+    fn copy(&mut self, wide: bool, dest: Location, source: Location) -> bool
         requires { IsWork (Move wide dest source) }
         ensures { MatchBool result
             (moved self.old (size_of wide) dest source ≡ Some self.new)

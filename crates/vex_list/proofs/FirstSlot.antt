@@ -1,6 +1,6 @@
 -- The search for the first slot of a kind, place by place.
-use Rattle.std.specs.Prelude.{◌≡◌, refl, ℕ, ◌+◌, ◌<◌, ◌≤◌, Bool, true, false, List, [], ◌∷◌, length, drop}
-use Rattle.std.specs.Prelude.{slice_index_or, if◌then◌else◌}
+use Rattle.std.specs.Prelude.{◌≡◌, refl, ℕ, ◌+◌, ◌<◌, Bool, true, false, List, [], ◌∷◌, length, drop}
+use Rattle.std.specs.Prelude.{if◌then◌else◌}
 use Rattle.std.proofs.Common.{zero, suc, arith, sym, ◌∙◌, get_or, add-one}
 use Rattle.x86_operand.specs.Meaning.{OperandMeaning, nothing}
 use Rattle.vex_forms.specs.declared.slot.Slot.{Slot}
@@ -10,23 +10,9 @@ no_operands : (is : Slot → Bool) (slots : List Slot) → operand_of_kind is sl
 no_operands is [] = refl
 no_operands is (s ∷ slots) = refl
 
-chosen_first : (b : Bool) (x y : OperandMeaning) → b ≡ true → (if b then x else y) ≡ x
-chosen_first true x y h = refl
-chosen_first false x y h = cc
-
 chosen_later : (b : Bool) (x y : OperandMeaning) → b ≡ false → (if b then x else y) ≡ y
 chosen_later true x y h = cc
 chosen_later false x y h = refl
-
--- at a slot that is of the kind, the operand there
-pub found_at : (is : Slot → Bool) (slots : List Slot) (operands : List OperandMeaning) (i : ℕ) (s : Slot)
-    → i < length slots → is (get_or slots i s) ≡ true
-    → operand_of_kind is (drop i slots) (drop i operands) ≡ slice_index_or operands i nothing
-found_at is [] operands i s h k = absurd (omega arith)
-found_at is (x ∷ slots) [] zero s h k = refl
-found_at is (x ∷ slots) (o ∷ operands) zero s h k = chosen_first (is x) o (operand_of_kind is slots operands) k
-found_at is (x ∷ slots) [] (suc i) s h k = no_operands is (drop i slots)
-found_at is (x ∷ slots) (o ∷ operands) (suc i) s h k = found_at is slots operands i s (omega arith) k
 
 -- at a slot that isn't, the search goes on
 pub later_at : (is : Slot → Bool) (slots : List Slot) (operands : List OperandMeaning) (i : ℕ) (s : Slot)
@@ -40,12 +26,3 @@ later_at is (x ∷ slots) [] (suc i) s h k =
     no_operands is (drop i slots) ∙ rw add-one (sym (no_operands is (drop (suc i) slots)))
 later_at is (x ∷ slots) (o ∷ operands) (suc i) s h k =
     rw add-one (later_at is slots operands i s (omega arith) k ∙ rw add-one refl)
-
--- past the last slot there is no operand
-pub none_at : (is : Slot → Bool) (slots : List Slot) (operands : List OperandMeaning) (i : ℕ) → length slots ≤ i
-    → operand_of_kind is (drop i slots) (drop i operands) ≡ nothing
-none_at is [] operands zero h = refl
-none_at is [] operands (suc i) h = refl
-none_at is (x ∷ slots) operands zero h = absurd (omega arith)
-none_at is (x ∷ slots) [] (suc i) h = no_operands is (drop i slots)
-none_at is (x ∷ slots) (o ∷ operands) (suc i) h = none_at is slots operands i (omega arith)

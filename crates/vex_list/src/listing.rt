@@ -12,6 +12,7 @@ ghost use Rattle.vex_list.specs.Next.{Covers};
 ghost use Rattle.vex_list.specs.Sets.{ByEntries};
 
 use crate::laws::all_are_listed;
+use crate::nearest::Wanted;
 use crate::rows::by_entry;
 use arrayvec::ArrayVec;
 use std::marker::Brand;
@@ -44,14 +45,15 @@ fn has_none<L: Ledger>(instruction: &Instruction, blank: Blank) -> bool
     encode_shortest(instruction, &mut Steps::<L>::new(blank)).is_err()
 }
 
-/// Over the rows of some entries.
-fn by_entries(entries: &[Entry], instruction: &Instruction, previous: &[u8]) -> Option<Spelling>
+/// The nearest spelling that is wanted by the rows of some entries.
+fn by_entries(entries: &[Entry], wanted: &Wanted<'_>) -> Option<Spelling>
     requires { (entry : Entry) → Among entry entries.now → Among entry table }
-    ensures { Covers instruction.now.meaning previous.now (ByEntries instruction.now.meaning entries.now) None result }
+    ensures { Covers wanted.now.instruction.now.meaning wanted.now.previous.now
+        (ByEntries wanted.now.instruction.now.meaning entries.now) None result }
 {
     let mut nearest = None;
     for entry in entries {
-        nearest = by_entry(entry, instruction, previous, nearest);
+        nearest = by_entry(entry, wanted, nearest);
     }
     nearest
 }
@@ -68,7 +70,11 @@ fn next_spelling(instruction: &Instruction, previous: &[u8]) -> Option<Spelling>
         return None;
     }
     let entries = counted_entries::<Brand>(instruction.opcode(), Blank::new(1));
-    by_entries(entries.as_slice(), instruction, previous)
+    let wanted = Wanted {
+        instruction,
+        previous,
+    };
+    by_entries(entries.as_slice(), &wanted)
 }
 
 /// The least spelling of the instruction's meaning that comes after `previous`, which is any byte string. `None` comes

@@ -11,6 +11,15 @@ use x86_operand::Instruction;
 use x86_permit::all_settings_permit_all;
 use x86_settings::InstDecoder;
 
+/// What is looked for: the nearest spelling of an instruction's meaning after some bytes.
+#[derive(Clone, Copy)]
+pub struct Wanted<'a> {
+    /// The instruction.
+    pub instruction: &'a Instruction,
+    /// What the spelling comes after.
+    pub previous: &'a [u8],
+}
+
 /// Whether bytes spell the instruction's meaning: a decode under all settings takes them all and answers it.
 fn spells(bytes: &[u8], instruction: &Instruction) -> bool
     ensures { IsTrue result ↔ Spells bytes.now instruction.now.meaning }
@@ -45,17 +54,15 @@ fn is_at_most(nearest: &Option<Spelling>, bytes: &[u8]) -> bool
     }
 }
 
-/// The nearer of the nearest so far and further bytes, where those spell the instruction and come after `previous`.
-pub fn nearer(
-    nearest: Option<Spelling>,
-    bytes: &[u8],
-    instruction: &Instruction,
-    previous: &[u8],
-) -> Option<Spelling>
+/// The nearer of the nearest so far and further bytes, where those are wanted.
+pub fn nearer(nearest: Option<Spelling>, bytes: &[u8], wanted: &Wanted<'_>) -> Option<Spelling>
     requires { length bytes.now ≤ 11 }
-    ensures { Covers instruction.now.meaning previous.now (λ b. b ≡ bytes.now) nearest result }
+    ensures { Covers wanted.now.instruction.now.meaning wanted.now.previous.now (λ b. b ≡ bytes.now) nearest result }
 {
-    if is_before(previous, bytes) && !is_at_most(&nearest, bytes) && spells(bytes, instruction) {
+    if is_before(wanted.previous, bytes)
+        && !is_at_most(&nearest, bytes)
+        && spells(bytes, wanted.instruction)
+    {
         Spelling::of(bytes)
     } else {
         nearest

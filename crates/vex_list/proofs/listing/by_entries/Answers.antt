@@ -12,17 +12,17 @@ by_entry-nearest-requires c = c.requires _
     (entry_at c.args.entries.now c.loop-entry.entry-index _ c.loop-entry-test.true)
 
 pub loop-entry-init : goal.loop-entry-init
-loop-entry-init c = cover_empty c.args.instruction.now.meaning c.args.previous.now _ None (λ b t. t.1)
+loop-entry-init c = cover_empty c.args.wanted.now.instruction.now.meaning c.args.wanted.now.previous.now _ None (λ b t. t.1)
 
 pub loop-entry-preserved : goal.loop-entry-preserved
 loop-entry-preserved c =
-    let m = c.args.instruction.now.meaning in
-    cover_fewer m c.args.previous.now _ _ _ _
+    let m = c.args.wanted.now.instruction.now.meaning in
+    cover_fewer m c.args.wanted.now.previous.now _ _ _ _
     (λ b. one_more m c.args.entries.now c.loop-entry.entry-index _ b c.loop-entry-test.true)
-    (cover_either m c.args.previous.now _ _ _ _ _ c.loop-entry.invariant c.by_entry-nearest.ensures)
+    (cover_either m c.args.wanted.now.previous.now _ _ _ _ _ c.loop-entry.invariant c.by_entry-nearest.ensures)
 
 pub returns : goal.returns
 returns c =
-    let m = c.args.instruction.now.meaning in
-    subst (λ entries. Covers m c.args.previous.now (ByEntries m entries) None c.loop-entry.nearest)
+    let m = c.args.wanted.now.instruction.now.meaning in
+    subst (λ entries. Covers m c.args.wanted.now.previous.now (ByEntries m entries) None c.loop-entry.nearest)
     (ap (λ n. take n c.args.entries.now) (omega arith) ∙ take-length c.args.entries.now) c.loop-entry.invariant

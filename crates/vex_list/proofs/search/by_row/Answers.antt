@@ -8,12 +8,12 @@ use Rattle.vex_list.proofs.search.by_row.Goals as goal
 use Rattle.vex_list.proofs.search.by_row.Goals.{then-is_open, else-is_open}
 
 pub loop-number-init : goal.loop-number-init
-loop-number-init c = λ row is. cover_none c.args.instruction.now.meaning c.args.previous.now 0 _ c.args.nearest
+loop-number-init c = λ row is. cover_none c.args.wanted.now.instruction.now.meaning c.args.wanted.now.previous.now 0 _ c.args.nearest
 
 pub loop-number-preserved : goal.loop-number-preserved
 loop-number-preserved c = λ row is.
-    let m = c.args.instruction.now.meaning in
-    let previous = c.args.previous.now in
+    let m = c.args.wanted.now.instruction.now.meaning in
+    let previous = c.args.wanted.now.previous.now in
     let old = c.loop-number.nearest in
     let over = ByPrefix row m c.args.parts.now in
     let here : Covers m previous (over c.prefix_choice-choices.result) old c.if-is_open.nearest =
@@ -29,6 +29,6 @@ loop-number-preserved c = λ row is.
 
 pub returns : goal.returns
 returns c = λ row is_row is.
-    let m = c.args.instruction.now.meaning in
-    cover_fewer m c.args.previous.now _ _ _ _ (λ b. by_all row m c.args.parts.now is_row is b)
-    (cover_to m c.args.previous.now 0 _ _ _ _ _ (omega arith) (c.loop-number.invariant row is))
+    let m = c.args.wanted.now.instruction.now.meaning in
+    cover_fewer m c.args.wanted.now.previous.now _ _ _ _ (λ b. by_all row m c.args.parts.now is_row is b)
+    (cover_to m c.args.wanted.now.previous.now 0 _ _ _ _ _ (omega arith) (c.loop-number.invariant row is))

@@ -6,6 +6,6 @@ use Rattle.vex_list.proofs.search.by_row.Given as goal
 
 abbrev pub invariant-loop-number : goal.invariant-loop-number
 invariant-loop-number l =
-    (row : Row) → IsRowParts row l.instruction.meaning l.parts
-    → Covers l.instruction.meaning l.previous
-    (Between 0 l.number (λ n. ByPrefix row l.instruction.meaning l.parts (prefix_choice n))) l.initial.nearest l.nearest
+    (row : Row) → IsRowParts row l.wanted.instruction.now.meaning l.parts
+    → Covers l.wanted.instruction.now.meaning l.wanted.previous.now
+    (Between 0 l.number (λ n. ByPrefix row l.wanted.instruction.now.meaning l.parts (prefix_choice n))) l.initial.nearest l.nearest
