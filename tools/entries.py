@@ -9,13 +9,12 @@ repository after each change of those three; with --check it writes nothing and 
 write it. Both ways it names, and fails for, the entries that share a key or stand out of order, the opcodes that have
 more than four entries, and those whose sizes stand at two places, which that check refuses too.
 """
-import argparse
 import re
 import sys
 from collections import Counter
 
 from form_shapes import opcodes_by_form, shapes_code
-from opcodes import HERE, all_names, read
+from opcodes import HERE, all_names, only_check, read, settle
 
 CRATE = HERE.parent / "crates" / "vex_rows"
 FORMS_CRATE = HERE.parent / "crates" / "vex_forms"
@@ -183,9 +182,7 @@ def places_code(places, starts, of_sizes):
 
 
 def main():
-    arguments = argparse.ArgumentParser(description=__doc__.splitlines()[0])
-    arguments.add_argument("--check", action="store_true", help="write nothing, and fail where a file would change")
-    check = arguments.parse_args().check
+    check = only_check(__doc__)
     forms = (CRATE / "src" / "forms.rt").read_text()
     table, lists_of_sizes = list(entries(opcodes_by_form(forms))), size_lists()
     opcodes = all_names(read(HERE / "opcodes.txt")[0])
@@ -197,18 +194,10 @@ def main():
         CRATE / "src" / "places.rt": places_code(*places, places_of_sizes(lists_of_sizes, opcodes)),
         FORMS_CRATE / "src" / "shapes.rt": shapes_code(forms, NOTE),
     }
-    status = 0
-    for fault in faults(table, lists_of_sizes):
+    found = list(faults(table, lists_of_sizes))
+    for fault in found:
         print(fault, file=sys.stderr)
-        status = 1
-    for path, lines in files.items():
-        text = "\n".join(lines) + "\n"
-        if not check:
-            path.write_text(text)
-        elif path.read_text() != text:
-            print(f"{path.relative_to(HERE.parent)} isn't what tools/entries.py writes", file=sys.stderr)
-            status = 1
-    return status
+    return settle(files, "tools/entries.py", check) or (1 if found else 0)
 
 
 if __name__ == "__main__":
