@@ -4,10 +4,10 @@
 These are the cells by map, implied prefix, opcode byte, W and L (src/cells.rt and specs/Cells.antt), and the places of
 each opcode's entries and of its sizes by the opcode's number (src/places.rt), which tools/opcodes.txt gives. The check
 of vex_rows proves what is written here, and compares it with the table and with src/sizes.rt. From src/forms.rt it
-writes crates/vex_forms/src/shapes.rt (form_shapes.py), which the check of vex_forms proves. Run it at the top of the
-repository after each change of those three; with --check it writes nothing and fails where a file isn't as it would
-write it. Both ways it names, and fails for, the entries that share a key or stand out of order, the opcodes that have
-more than four entries, and those whose sizes stand at two places, which that check refuses too.
+writes crates/vex_forms/src/shapes.rt (form_shapes.py), which the check of vex_forms proves. Run it after each change
+of those three and of tools/opcodes.txt; with --check it writes nothing and fails where a file isn't as it would write
+it. Both ways it names, and fails for, the entries that share a key or stand out of order, the opcodes that have more
+than four entries, and those whose sizes stand at two places, which the check of vex_rows refuses too.
 """
 import re
 import sys
