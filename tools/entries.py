@@ -4,18 +4,17 @@
 These are the cells by map, implied prefix, opcode byte, W and L (src/cells.rt and specs/Cells.antt), and the places of
 each opcode's entries and of its sizes by the opcode's number (src/places.rt), which tools/opcodes.txt gives. The check
 of vex_rows proves what is written here, and compares it with the table and with src/sizes.rt. From src/forms.rt it
-writes crates/vex_forms/src/shapes.rt (form_shapes.py), which the check of vex_forms proves. Run it at the top of the
-repository after each change of those three; with --check it writes nothing and fails where a file isn't as it would
-write it. It names the entries that share a key or stand out of order, the opcodes that have more than four entries,
-and those whose sizes stand at two places, which that check refuses too.
+writes crates/vex_forms/src/shapes.rt (form_shapes.py), which the check of vex_forms proves. Run it after each change
+of those three and of tools/opcodes.txt; with --check it writes nothing and fails where a file isn't as it would write
+it. Both ways it names, and fails for, the entries that share a key or stand out of order, the opcodes that have more
+than four entries, and those whose sizes stand at two places, which the check of vex_rows refuses too.
 """
 import re
 import sys
 from collections import Counter
-from pathlib import Path
 
-from form_shapes import shapes_code
-from opcodes import HERE, read
+from form_shapes import opcodes_by_form, shapes_code
+from opcodes import HERE, all_names, only_check, read, settle
 
 CRATE = HERE.parent / "crates" / "vex_rows"
 FORMS_CRATE = HERE.parent / "crates" / "vex_forms"
@@ -27,46 +26,45 @@ NONE = 65535
 ENTRY = re.compile(r"entry!\((\w+) (\w+) 0x([0-9A-F]{2}) (\w+) (\w+) (\w+) (\w+)\)")
 LIST = re.compile(r"= &\[(.*?)\];", re.DOTALL)
 SIZE = re.compile(r"\(Opcode::(\w+), ")
-# The opcodes that rows of a form give where the entry announces none.
-OPCODES = {
-    "VPS_71": ("VPSRLW", "VPSRAW", "VPSLLW"),
-    "VPS_72": ("VPSRLD", "VPSRAD", "VPSLLD"),
-    "VPS_73": ("VPSRLQ", "VPSRLDQ", "VPSLLQ", "VPSLLDQ"),
-    "BMI1_F3": ("BLSR", "BLSMSK", "BLSI"),
-    "MXCSR": ("VLDMXCSR", "VSTMXCSR"),
-    "VMOVLPS_12": ("VMOVHLPS", "VMOVLPS"),
-    "VMOVHPS_16": ("VMOVLHPS", "VMOVHPS"),
-}
 
 
-def entries():
-    """Map, implied prefix, byte, W rule, L rule, form and opcode of each line of the table."""
+def entries(by_form):
+    """Map, implied prefix, byte, W rule, L rule and opcodes of each line of the table."""
     text = (CRATE / "src" / "table.rt").read_text()
     table = text[text.index("pub static TABLE") :]
     for map_name, prefix, byte, w, l, form, opcode in ENTRY.findall(table):
-        yield map_name, prefix, int(byte, 16), w, l, form, opcode
+        yield map_name, prefix, int(byte, 16), w, l, by_form.get(form, [opcode])
 
 
-def faults(table):
+def size_lists():
+    """The opcodes of each list of sizes, in order."""
+    return [SIZE.findall(sizes) for sizes in LIST.findall((CRATE / "src" / "sizes.rt").read_text())]
+
+
+def faults(table, lists_of_sizes):
     """What the check of vex_rows would refuse, in words."""
     order = [
         (MAPS.index(map_name), PREFIXES.index(prefix), byte, RULES.index(w), RULES.index(l))
-        for map_name, prefix, byte, w, l, _, _ in table
+        for map_name, prefix, byte, w, l, _ in table
     ]
     for last, entry, key, next_key in zip(table, table[1:], order, order[1:]):
         if key >= next_key:
             yield f"out of order: {entry} after {last}"
     holders = {}
     for entry in table:
-        map_name, prefix, byte, w, l, _, _ = entry
+        map_name, prefix, byte, w, l, _ = entry
         for key in [(map_name, prefix, byte, w_bit, l_bit) for w_bit in allowed(w) for l_bit in allowed(l)]:
             if key in holders:
                 yield f"one key: {holders[key]} and {entry}"
             holders[key] = entry
-    counts = Counter(name for *_, form, opcode in table for name in OPCODES.get(form, (opcode,)))
-    for name, count in counts.items():
+    for name, count in Counter(name for *_, names in table for name in names).items():
         if count > 4:
             yield f"{count} entries of {name}"
+    places = {}
+    for names in lists_of_sizes:
+        for place, name in enumerate(names):
+            if places.setdefault(name, place) != place:
+                yield f"two places: the sizes of {name}"
 
 
 def allowed(rule):
@@ -76,52 +74,34 @@ def allowed(rule):
 def cells(table):
     """For each map and implied prefix that has entries, the place of each key's entry."""
     lists = {}
-    for place, (map_name, prefix, byte, w, l, _, _) in enumerate(table):
-        cells = lists.setdefault((map_name, prefix), [NONE] * 1024)
+    for place, (map_name, prefix, byte, w, l, _) in enumerate(table):
+        of_keys = lists.setdefault((map_name, prefix), [NONE] * 1024)
         for w_bit in allowed(w):
             for l_bit in allowed(l):
-                cells[4 * byte + 2 * w_bit + l_bit] = place
+                of_keys[4 * byte + 2 * w_bit + l_bit] = place
     return lists
 
 
-def numbers_of_opcodes():
-    """The number of each opcode, and how many there are."""
-    parts, count = read(HERE / "opcodes.txt")
-    numbers = {"Invalid": 0, "BSF": 1}
-    for part in parts:
-        for i, name in enumerate(part.names()):
-            numbers[name] = part.first + i
-    return numbers, count
-
-
-def places(table):
+def places_of_entries(table, opcodes):
     """The places of each opcode's entries one after another, and where those of each opcode begin."""
-    numbers, count = numbers_of_opcodes()
-    lists = [[] for _ in range(count)]
-    for place, (*_, form, opcode) in enumerate(table):
-        for name in OPCODES.get(form, (opcode,)):
-            lists[numbers[name]].append(place)
+    lists = {name: [] for name in opcodes}
+    for place, (*_, names) in enumerate(table):
+        for name in names:
+            lists[name].append(place)
     starts = [0]
-    for of_opcode in lists:
+    for of_opcode in lists.values():
         starts.append(starts[-1] + len(of_opcode))
-    return [place for of_opcode in lists for place in of_opcode], starts
+    return [place for of_opcode in lists.values() for place in of_opcode], starts
+
+
+def places_of_sizes(lists_of_sizes, opcodes):
+    """Where the size of each opcode stands in the lists that have it."""
+    places = {name: place for names in lists_of_sizes for place, name in enumerate(names)}
+    return [places.get(name, NONE) for name in opcodes]
 
 
 def name_of(map_name, prefix):
     return f"CELLS_{map_name.removeprefix('Map')}_{prefix.removeprefix('Prefix')}".upper()
-
-
-def size_places():
-    """Where the size of each opcode stands in the lists that have it; it names the opcodes that stand at two places."""
-    numbers, count = numbers_of_opcodes()
-    found = [NONE] * count
-    text = (CRATE / "src" / "sizes.rt").read_text()
-    for sizes in LIST.findall(text):
-        for place, name in enumerate(SIZE.findall(sizes)):
-            if found[numbers[name]] not in (NONE, place):
-                print(f"two places: the sizes of {name}", file=sys.stderr)
-            found[numbers[name]] = place
-    return found
 
 
 def static(doc, name, numbers, public):
@@ -158,8 +138,8 @@ def cells_code(lists):
     ]
     for map_name in MAPS:
         for prefix in PREFIXES:
-            cells = "&" + name_of(map_name, prefix) if (map_name, prefix) in lists else "&[]"
-            lines.append(f"        (Map::{map_name}, Pp::{prefix}) => {cells},")
+            constant = "&" + name_of(map_name, prefix) if (map_name, prefix) in lists else "&[]"
+            lines.append(f"        (Map::{map_name}, Pp::{prefix}) => {constant},")
     return lines + ["    }", "}"]
 
 
@@ -182,12 +162,12 @@ def cells_specs(lists):
     ]
     for map_name in MAPS:
         for prefix in PREFIXES:
-            cells = name_of(map_name, prefix) if (map_name, prefix) in lists else "[]"
-            lines.append(f"cells_of {map_name} {prefix} = {cells}")
+            constant = name_of(map_name, prefix) if (map_name, prefix) in lists else "[]"
+            lines.append(f"cells_of {map_name} {prefix} = {constant}")
     return lines
 
 
-def places_code(places, starts, size_places):
+def places_code(places, starts, of_sizes):
     lines = [
         f"//! The places in table order of each opcode's entries, and that of its sizes, {NOTE}.",
         "",
@@ -198,30 +178,26 @@ def places_code(places, starts, size_places):
     lines += static(doc, "STARTS", starts, "pub ")
     doc = "Where the size of each opcode stands in each list of sizes that has it, by the opcode's number, and 65535"
     doc += " for none."
-    return (lines + static(doc, "SIZE_PLACES", size_places, "pub "))[:-1]
+    return (lines + static(doc, "SIZE_PLACES", of_sizes, "pub "))[:-1]
 
 
 def main():
-    table = list(entries())
+    check = only_check(__doc__)
+    forms = (CRATE / "src" / "forms.rt").read_text()
+    table, lists_of_sizes = list(entries(opcodes_by_form(forms))), size_lists()
+    opcodes = all_names(read(HERE / "opcodes.txt")[0])
     lists = cells(table)
+    places = places_of_entries(table, opcodes)
     files = {
         CRATE / "src" / "cells.rt": cells_code(lists),
         CRATE / "specs" / "Cells.antt": cells_specs(lists),
-        CRATE / "src" / "places.rt": places_code(*places(table), size_places()),
-        FORMS_CRATE / "src" / "shapes.rt": shapes_code((CRATE / "src" / "forms.rt").read_text(), NOTE),
+        CRATE / "src" / "places.rt": places_code(*places, places_of_sizes(lists_of_sizes, opcodes)),
+        FORMS_CRATE / "src" / "shapes.rt": shapes_code(forms, NOTE),
     }
-    status = 0
-    for fault in faults(table):
+    found = list(faults(table, lists_of_sizes))
+    for fault in found:
         print(fault, file=sys.stderr)
-        status = 1
-    for path, lines in files.items():
-        text = "\n".join(lines) + "\n"
-        if "--check" not in sys.argv:
-            path.write_text(text)
-        elif path.read_text() != text:
-            print(f"{path.relative_to(HERE.parent)} isn't what tools/entries.py writes", file=sys.stderr)
-            status = 1
-    return status
+    return settle(files, "tools/entries.py", check) or (1 if found else 0)
 
 
 if __name__ == "__main__":

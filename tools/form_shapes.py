@@ -7,10 +7,31 @@ import re
 
 ROW = re.compile(r"FormRow \{(.*?)\.\.(\w+)\s*\}", re.DOTALL)
 CONST = re.compile(r"(?:pub )?const (\w+): FormRow = (FormRow \{.*?\});", re.DOTALL)
+OPCODES = re.compile(r"const (\w+): (?:Few<\(u8, Opcode\)>|Option<\(Opcode, Opcode\)>) = (.*?);", re.DOTALL)
 SIZE = re.compile(r"const (\w+): SizeRule = (.*?);", re.DOTALL)
 FIELD = re.compile(r"(\w+): (\w+(?:::\w+)?(?:\((?:[^()]|\([^()]*\))*\))?),")
 SLOT = re.compile(r"(VInRegister|G|V|E|R4)\((\w+)\)|(U8|I8)")
 COUNT = re.compile(r"(Nothing|Is|CountByL|CountByW)(?:\((\d+)(?:, (\d+))?\))?")
+
+# What the file begins with, after its first line, and the list of shapes before its declaration.
+HEAD = """//!
+//! Those of a form stand one after another, in the order of `Form`: by W, then L, then the place of the operand E.
+
+use crate::shape::ShapeSize::{Always, ByOpcode};
+use crate::shape::{
+    ELEMENT_ROW, GATHER_ROW, GROUP_ROW, NO_GATHER_ROW, NO_GROUP_ROW, NO_ROW, ROW, RowShape,
+    ShapeSize,
+};
+use crate::slot::Slot::{E, G, I8, R4, U8, V};
+use crate::slot::VvvvRule::{Free, Named, Zero};
+use vex_rows::ByteCount::{ByL, Is};
+use vex_rows::SizeList;
+use x86_operand::RegisterBank::{D, Q, X, Y};
+
+// The sizes that go by the opcode, as the table of forms names them."""
+SHAPES_HEAD = """/// The shapes of all forms: that of a form at W, L and a place of the operand E, 1 in memory, stands at 8 times the
+/// form's number + 4 * W + 2 * L + place.
+#[rattlefmt::skip]"""
 
 
 def fields(text):
@@ -23,8 +44,15 @@ def form_rows(text):
     for name, row in CONST.findall(text):
         inherited = ROW.fullmatch(row)
         bases[name] = {**bases[inherited[2]], **fields(inherited[1])} if inherited else fields(row)
-    for own, base in ROW.findall(text[text.index("pub static FORMS") :]):
-        yield {**bases[base], **fields(own)}
+    for own, name in ROW.findall(text[text.index("pub static FORMS") :]):
+        yield {**bases[name], **fields(own)}
+
+
+def opcodes_by_form(text):
+    """The opcodes that the rows of a form give, of each form whose entries announce none."""
+    lists = {name: re.findall(r"Opcode::(\w+)", opcodes) for name, opcodes in OPCODES.findall(text)}
+    named = {row["form"]: lists.get(row["groups"]) or lists.get(row["opcodes"]) for row in form_rows(text)}
+    return {form.removeprefix("Form::"): opcodes for form, opcodes in named.items() if opcodes}
 
 
 def checks(row, *steps):
@@ -105,33 +133,11 @@ def shape(row, sizes, w, l, memory):
 def shapes_code(text, note):
     rows = list(form_rows(text))
     sizes = dict(SIZE.findall(text))
-    lines = [
-        f"//! The shapes of the rows of each form, {note}.",
-        "//!",
-        "//! Those of a form stand one after another, in the order of `Form`: by W, then L, then the place of the operand E.",
-        "",
-        "use crate::shape::ShapeSize::{Always, ByOpcode};",
-        "use crate::shape::{",
-        "    ELEMENT_ROW, GATHER_ROW, GROUP_ROW, NO_GATHER_ROW, NO_GROUP_ROW, NO_ROW, ROW, RowShape,",
-        "    ShapeSize,",
-        "};",
-        "use crate::slot::Slot::{E, G, I8, R4, U8, V};",
-        "use crate::slot::VvvvRule::{Free, Named, Zero};",
-        "use vex_rows::ByteCount::{ByL, Is};",
-        "use vex_rows::SizeList;",
-        "use x86_operand::RegisterBank::{D, Q, X, Y};",
-        "",
-        "// The sizes that go by the opcode, as the table of forms names them.",
-    ]
+    lines = [f"//! The shapes of the rows of each form, {note}.", *HEAD.splitlines()]
     for name, rule in sizes.items():
         if rule.startswith("ByOpcode"):
             lines += [f"const {name}: ShapeSize = {rule.replace('CountBy', 'By')};", ""]
-    lines += [
-        "/// The shapes of all forms: that of a form at W, L and a place of the operand E, 1 in memory, stands at 8 times the",
-        "/// form's number + 4 * W + 2 * L + place.",
-        "#[rattlefmt::skip]",
-        f"pub static SHAPES: [RowShape; {8 * len(rows)}] = [",
-    ]
+    lines += [*SHAPES_HEAD.splitlines(), f"pub static SHAPES: [RowShape; {8 * len(rows)}] = ["]
     for row in rows:
         lines.append(f"    // {row['form'].removeprefix('Form::')}")
         for place in range(8):

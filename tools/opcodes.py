@@ -1,14 +1,18 @@
 #!/usr/bin/env python3
 """Writes the long lists of crates/x86_opcode from tools/opcodes.txt.
 
-    python3 tools/opcodes.py          writes them into crates/x86_opcode
-    python3 tools/opcodes.py FOLDER   writes them into FOLDER, which tools/compare_opcodes compares with the crate
+    python3 tools/opcodes.py           writes them
+    python3 tools/opcodes.py --check   writes nothing, shows how each file differs from what it would write, and fails
+                                       where one does
 
 These are, in src/: the enum of opcodes and of each part (lib.rt), a file for each part with its constants, names and
 conditions, the list of all opcodes (list.rt) and where the opcode of a name stands (slots.rt); in specs/: the numbers,
 the names, the constants, the conditions and the VEX opcodes, with the lemmas that go opcode by opcode; in proofs/: the
 tags. No file of the crate is written in part by hand and in part by this script.
 """
+import argparse
+import difflib
+import itertools
 import re
 import sys
 from pathlib import Path
@@ -20,6 +24,7 @@ VEX_PARTS = ("Integer", "Float", "Fused")
 ALTERNATIVES = 25  # of one arm of a match
 REST = 50  # a last condition with more names than this is the arm for the rest
 WIDTH = 100  # of a line of code
+SHOWN = 20  # lines of the difference of a file
 
 
 class Part:
@@ -237,7 +242,7 @@ def imports(parts, body):
     for part in parts:
         if has(part.enum):
             yield f"use Rattle.x86_opcode.specs.declared.{part.enum}.{{{part.enum}}}"
-        if has(rf"{part.low}\.(?=\w)".replace(r"(?!\w)", "")) or f" {part.low}." in text or f"({part.low}." in text:
+        if re.search(rf"(?<![\w.]){part.low}\.", text):
             yield f"use Rattle.x86_opcode.specs.declared.{part.enum}.TheVariants as {part.low}"
 
 
@@ -376,8 +381,32 @@ def vex_parts(parts):
     return text + body
 
 
+def settle(files, script, check):
+    """Writes the lines of each file; with `check` it shows instead how each differs. Answers 1 where one does, else 0."""
+    status = 0
+    for path, lines in files.items():
+        before, text = path.read_text() if path.exists() else "", "\n".join(lines) + "\n"
+        if not check:
+            path.write_text(text)
+        elif before != text:
+            status = 1
+            name = path.relative_to(HERE.parent)
+            print(f"{name} isn't what {script} writes", file=sys.stderr)
+            difference = difflib.unified_diff(before.splitlines(), lines, str(name), "written", lineterm="")
+            for line in itertools.islice(difference, SHOWN):
+                print(line, file=sys.stderr)
+    return status
+
+
+def only_check(doc):
+    """Whether --check was given to a script with this doc; it takes nothing else."""
+    arguments = argparse.ArgumentParser(description=doc.splitlines()[0])
+    arguments.add_argument("--check", action="store_true", help="write nothing, and fail where a file would change")
+    return arguments.parse_args().check
+
+
 def main():
-    folder = Path(sys.argv[1]) if len(sys.argv) > 1 else CRATE
+    check = only_check(__doc__)
     parts, count = read(HERE / "opcodes.txt")
     files = {
         "src/lib.rt": enums(parts),
@@ -393,11 +422,8 @@ def main():
         "proofs/Tags.antt": tags(parts),
     }
     files |= {f"src/{part.low}.rt": part_file(part) for part in parts}
-    for name, lines in files.items():
-        path = folder / name
-        path.parent.mkdir(parents=True, exist_ok=True)
-        path.write_text("\n".join(lines) + "\n")
+    return settle({CRATE / name: lines for name, lines in files.items()}, "tools/opcodes.py", check)
 
 
 if __name__ == "__main__":
-    main()
+    sys.exit(main())
