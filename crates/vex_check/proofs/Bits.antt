@@ -3,7 +3,7 @@ use Rattle.std.proofs.Common.{add-zero, zero-add, nat_lt, ◌≡◌, ℕ, zero, 
 use Rattle.std.proofs.Common.{◌∷◌, map, refl, sym, ap, ◌∙◌, arith}
 use Rattle.std.specs.Prelude.{◌==◌, ◌&&◌, ◌||◌}
 use Rattle.std.specs.List.{list_all, range_with_len}
-use Rattle.std.proofs.lemmas.Bool.{and_parts, and_from, eqb-true}
+use Rattle.std.proofs.lemmas.Bool.{and_parts, eqb-true}
 use Rattle.std.proofs.lemmas.Bool.Decides.{nat_tests}
 use Rattle.std.proofs.Math.Bool.{or-true}
 use Rattle.x86_opcode.specs.declared.Opcode.{Opcode}
@@ -88,13 +88,6 @@ lacking s (i ∷ places) h = by (is_set s i) refl h (λ k. lacking s places k) w
       → Lacks s (i ∷ places)
   by true e h later = let l = later h in record { bit = l.bit; among = further l.bit l.among; lacked = l.lacked }
   by false e h later = record { bit = i; among = here (is_among places i); lacked = e }
-
--- where each of these bits is set, all are
-pub all-each : (s : List Bool) (places : List ℕ) → ((i : ℕ) → is_among places i ≡ true → is_set s i ≡ true)
-    → all_set s places ≡ true
-all-each s [] h = refl
-all-each s (i ∷ places) h =
-    and_from _ _ (h i (rw (same-bit i) refl)) (all-each s places (λ j m. h j (rw (m) (or-true (i == j)))))
 
 -- ---- settings made from a test of each bit
 

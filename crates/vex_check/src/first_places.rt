@@ -11,13 +11,29 @@ use arrayvec::ArrayVec;
 use x86_opcode::Opcode;
 use x86_settings::InstDecoder;
 
+// The numbers of the five bits in the settings.
+const AESNI: u8 = 5;
+
+const AVX: u8 = 7;
+
+const BMI1: u8 = 25;
+
+const BMI2: u8 = 26;
+
+const F16C: u8 = 32;
+
 /// The first place that needs each bit, where some place does.
 #[derive(Drop)]
 pub struct FirstPlaces {
+    /// The first instruction that needs `aesni`.
     pub aesni: Option<First>,
+    /// The first instruction that needs `avx`.
     pub avx: Option<First>,
+    /// The first instruction that needs `bmi1`.
     pub bmi1: Option<First>,
+    /// The first instruction that needs `bmi2`.
     pub bmi2: Option<First>,
+    /// The first instruction that needs `f16c`.
     pub f16c: Option<First>,
 }
 
@@ -60,11 +76,11 @@ impl FirstPlaces {
     pub fn note(&mut self, least: &InstDecoder, place: usize, opcode: Opcode)
         ensures { self.new ≡ noted (is_set least.now) place opcode self.old }
     {
-        keep_first(&mut self.aesni, least.aesni(), 5, place, opcode);
-        keep_first(&mut self.avx, least.avx(), 7, place, opcode);
-        keep_first(&mut self.bmi1, least.bmi1(), 25, place, opcode);
-        keep_first(&mut self.bmi2, least.bmi2(), 26, place, opcode);
-        keep_first(&mut self.f16c, least.f16c(), 32, place, opcode);
+        keep_first(&mut self.aesni, least.aesni(), AESNI, place, opcode);
+        keep_first(&mut self.avx, least.avx(), AVX, place, opcode);
+        keep_first(&mut self.bmi1, least.bmi1(), BMI1, place, opcode);
+        keep_first(&mut self.bmi2, least.bmi2(), BMI2, place, opcode);
+        keep_first(&mut self.f16c, least.f16c(), F16C, place, opcode);
     }
 
     /// The places that are there, in ascending order of their bits.

@@ -55,7 +55,7 @@ fn a_run_needs_the_bits_of_its_instructions(rt: HostRuntime) -> Result<(), Fail>
 }
 
 #[test]
-fn a_run_stops_at_its_first_fault(rt: HostRuntime) -> Result<(), Fail> {
+fn a_run_stops_at_its_first_fault(rt: HostRuntime) {
     let rows: [(&[u8], usize, DecodeError); 4] = [
         (&[0xC5, 0xF8, 0x77, 0x33], 3, DecodeError::Outside),
         (
@@ -79,12 +79,8 @@ fn a_run_stops_at_its_first_fault(rt: HostRuntime) -> Result<(), Fail> {
             place,
             cause: RunCause::Blocked(error),
         };
-        match check(bytes) {
-            Ok(_) => return Err("a fault is passed over".into()),
-            Err(fault) => assert_eq!(rt; fault, wanted),
-        }
+        assert_eq!(rt; check(bytes).err(), Some(wanted));
     }
-    Ok(())
 }
 
 #[test]

@@ -45,7 +45,7 @@ fn has_none<L: Ledger>(instruction: &Instruction, blank: Blank) -> bool
     encode_shortest(instruction, &mut Steps::<L>::new(blank)).is_err()
 }
 
-/// The nearest spelling that is wanted by the rows of some entries.
+/// The nearest wanted spelling by the rows of some entries.
 fn by_entries(entries: &[Entry], wanted: &Wanted<'_>) -> Option<Spelling>
     requires { (entry : Entry) → Among entry entries.now → Among entry table }
     ensures { Covers wanted.now.instruction.now.meaning wanted.now.previous.now

@@ -70,7 +70,8 @@ fn row_choices(form: Form) -> u8
 /// registers and memory, and the groups.
 pub fn by_entry(entry: &Entry, wanted: &Wanted<'_>, nearest: Option<Spelling>) -> Option<Spelling>
     requires { Among entry.now table }
-    ensures { Covers wanted.now.instruction.now.meaning wanted.now.previous.now (ByEntry wanted.now.instruction.now.meaning entry.now) nearest result }
+    ensures { Covers wanted.now.instruction.now.meaning wanted.now.previous.now
+        (ByEntry wanted.now.instruction.now.meaning entry.now) nearest result }
 {
     let mut nearest = nearest;
     for number in 0..row_choices(entry.form) {

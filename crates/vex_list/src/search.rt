@@ -24,8 +24,8 @@ fn by_low(
 ) -> Option<Spelling>
     requires { IsChoices choices }
     ensures { (row : Row) → IsRowParts row wanted.now.instruction.now.meaning parts.now
-        → Covers wanted.now.instruction.now.meaning wanted.now.previous.now (ByLow row wanted.now.instruction.now.meaning parts.now choices) nearest
-        result }
+        → Covers wanted.now.instruction.now.meaning wanted.now.previous.now
+        (ByLow row wanted.now.instruction.now.meaning parts.now choices) nearest result }
 {
     let mut nearest = nearest;
     for low in 0..parts.lows {
@@ -45,8 +45,8 @@ fn by_address(
 ) -> Option<Spelling>
     requires { IsChoices choices }
     ensures { (row : Row) → IsRowParts row wanted.now.instruction.now.meaning parts.now
-        → Covers wanted.now.instruction.now.meaning wanted.now.previous.now (ByAddress row wanted.now.instruction.now.meaning parts.now choices) nearest
-        result }
+        → Covers wanted.now.instruction.now.meaning wanted.now.previous.now
+        (ByAddress row wanted.now.instruction.now.meaning parts.now choices) nearest result }
 {
     let mut nearest = nearest;
     for number in 0..address_forms(&parts.e) {
@@ -67,8 +67,8 @@ fn by_vvvv(
 ) -> Option<Spelling>
     requires { IsChoices choices }
     ensures { (row : Row) → IsRowParts row wanted.now.instruction.now.meaning parts.now
-        → Covers wanted.now.instruction.now.meaning wanted.now.previous.now (ByVvvv row wanted.now.instruction.now.meaning parts.now choices) nearest
-        result }
+        → Covers wanted.now.instruction.now.meaning wanted.now.previous.now
+        (ByVvvv row wanted.now.instruction.now.meaning parts.now choices) nearest result }
 {
     let (first, end) = inverted_vvvv(parts.vvvv);
     let mut nearest = nearest;
@@ -83,7 +83,8 @@ fn by_vvvv(
 /// its bits R, X and B, where the row leaves them open.
 pub fn by_row(parts: &RowParts, wanted: &Wanted<'_>, nearest: Option<Spelling>) -> Option<Spelling>
     ensures { (row : Row) → IsRow row → IsRowParts row wanted.now.instruction.now.meaning parts.now
-        → Covers wanted.now.instruction.now.meaning wanted.now.previous.now (λ b. SpellsBy b wanted.now.instruction.now.meaning row) nearest result }
+        → Covers wanted.now.instruction.now.meaning wanted.now.previous.now
+        (λ b. SpellsBy b wanted.now.instruction.now.meaning row) nearest result }
 {
     let mut nearest = nearest;
     for number in 0..16 {

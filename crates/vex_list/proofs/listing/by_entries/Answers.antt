@@ -12,7 +12,8 @@ by_entry-nearest-requires c = c.requires _
     (entry_at c.args.entries.now c.loop-entry.entry-index _ c.loop-entry-test.true)
 
 pub loop-entry-init : goal.loop-entry-init
-loop-entry-init c = cover_empty c.args.wanted.now.instruction.now.meaning c.args.wanted.now.previous.now _ None (λ b t. t.1)
+loop-entry-init c =
+    cover_empty c.args.wanted.now.instruction.now.meaning c.args.wanted.now.previous.now _ None (λ b t. t.1)
 
 pub loop-entry-preserved : goal.loop-entry-preserved
 loop-entry-preserved c =

@@ -5,10 +5,12 @@ use Rattle.vex_list.proofs.Table.{by_numbers}
 use Rattle.vex_list.proofs.rows.by_entry.Goals as goal
 
 pub loop-number-init : goal.loop-number-init
-loop-number-init c = cover_none c.args.wanted.now.instruction.now.meaning c.args.wanted.now.previous.now 0 _ c.args.nearest
+loop-number-init c =
+    cover_none c.args.wanted.now.instruction.now.meaning c.args.wanted.now.previous.now 0 _ c.args.nearest
 
 pub loop-number-preserved : goal.loop-number-preserved
-loop-number-preserved c = cover_more c.args.wanted.now.instruction.now.meaning c.args.wanted.now.previous.now 0 c.loop-number.number _ _ _ _
+loop-number-preserved c =
+    cover_more c.args.wanted.now.instruction.now.meaning c.args.wanted.now.previous.now 0 c.loop-number.number _ _ _ _
     c.loop-number.invariant c.by_choice-nearest.ensures
 
 pub returns : goal.returns

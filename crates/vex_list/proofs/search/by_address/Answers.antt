@@ -7,7 +7,8 @@ use Rattle.vex_list.proofs.Sets.{by_forms}
 use Rattle.vex_list.proofs.search.by_address.Goals as goal
 
 pub loop-number-init : goal.loop-number-init
-loop-number-init c = λ row is. cover_none c.args.wanted.now.instruction.now.meaning c.args.wanted.now.previous.now 0 _ c.args.nearest
+loop-number-init c = λ row is.
+    cover_none c.args.wanted.now.instruction.now.meaning c.args.wanted.now.previous.now 0 _ c.args.nearest
 
 pub loop-number-preserved : goal.loop-number-preserved
 loop-number-preserved c = λ row is.

@@ -8,5 +8,6 @@ abbrev pub invariant-loop-number : goal.invariant-loop-number
 invariant-loop-number l =
     (row : Row) → IsRowParts row l.wanted.instruction.now.meaning l.parts
     → Covers l.wanted.instruction.now.meaning l.wanted.previous.now
-    (Between 0 l.number (λ n. ByLow row l.wanted.instruction.now.meaning l.parts (with_address l.choices (address_form n))))
+    (Between 0 l.number
+    (λ n. ByLow row l.wanted.instruction.now.meaning l.parts (with_address l.choices (address_form n))))
     l.initial.nearest l.nearest

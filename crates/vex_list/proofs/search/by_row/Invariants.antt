@@ -8,4 +8,5 @@ abbrev pub invariant-loop-number : goal.invariant-loop-number
 invariant-loop-number l =
     (row : Row) → IsRowParts row l.wanted.instruction.now.meaning l.parts
     → Covers l.wanted.instruction.now.meaning l.wanted.previous.now
-    (Between 0 l.number (λ n. ByPrefix row l.wanted.instruction.now.meaning l.parts (prefix_choice n))) l.initial.nearest l.nearest
+    (Between 0 l.number (λ n. ByPrefix row l.wanted.instruction.now.meaning l.parts (prefix_choice n)))
+    l.initial.nearest l.nearest

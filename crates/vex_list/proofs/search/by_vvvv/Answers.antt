@@ -5,10 +5,12 @@ use Rattle.vex_list.proofs.Sets.{by_inverted}
 use Rattle.vex_list.proofs.search.by_vvvv.Goals as goal
 
 pub loop-inverted-init : goal.loop-inverted-init
-loop-inverted-init c = λ row is. cover_none c.args.wanted.now.instruction.now.meaning c.args.wanted.now.previous.now _ _ c.args.nearest
+loop-inverted-init c = λ row is.
+    cover_none c.args.wanted.now.instruction.now.meaning c.args.wanted.now.previous.now _ _ c.args.nearest
 
 pub loop-inverted-preserved : goal.loop-inverted-preserved
-loop-inverted-preserved c = λ row is. cover_more c.args.wanted.now.instruction.now.meaning c.args.wanted.now.previous.now _
+loop-inverted-preserved c = λ row is.
+    cover_more c.args.wanted.now.instruction.now.meaning c.args.wanted.now.previous.now _
     c.loop-inverted.inverted _ _ _ _ (c.loop-inverted.invariant row is) (c.by_address-nearest.ensures row is)
 
 pub returns : goal.returns

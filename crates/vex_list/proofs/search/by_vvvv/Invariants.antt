@@ -9,5 +9,6 @@ abbrev pub invariant-loop-inverted : goal.invariant-loop-inverted
 invariant-loop-inverted l =
     (row : Row) → IsRowParts row l.wanted.instruction.now.meaning l.parts
     → Covers l.wanted.instruction.now.meaning l.wanted.previous.now
-    (Between l.first l.inverted (λ n. ByAddress row l.wanted.instruction.now.meaning l.parts (with_vvvv l.choices (15 - n))))
-    l.initial.nearest l.nearest
+    (Between l.first l.inverted
+    (λ n. ByAddress row l.wanted.instruction.now.meaning l.parts (with_vvvv l.choices (15 - n)))) l.initial.nearest
+    l.nearest
