@@ -37,8 +37,8 @@ pub trait Decoder {
     /// The settings that it decodes by.
     ghost settings: { Self → List Bool };
 
-    /// Decodes the instruction at the front of a slice, and answers it with the number of its bytes, 3 to 11. The errors
-    /// are those above: `ExhaustedInput` comes exactly where a byte that a step reads isn't there.
+    /// Decodes the instruction at the front of a slice, and answers it with the number of its bytes, 3 to 11. The
+    /// errors are those above: `ExhaustedInput` comes exactly where a byte that a step reads isn't there.
     fn decode_slice(&self, bytes: &[u8]) -> Result<Instruction, DecodeError>
         // Exactly where a permitted spelling begins the bytes.
         ensures begun { IsOk result ↔ (blocked (settings self.now) bytes.now ≡ None) }
@@ -51,8 +51,8 @@ pub trait Decoder {
         // The error is the one that blocks the bytes.
         ensures refused { IfErr result (λ error. (n : ℕ) × (blocked (settings self.now) bytes.now ≡ Some (error, n))) };
 
-    /// Decodes the instruction that a reader gives, and answers it with the number of bytes taken, 3 to 11. The errors are
-    /// those above. Where the reader tells a permitted spelling and refuses no byte of it, the answer is `Ok`.
+    /// Decodes the instruction that a reader gives, and answers it with the number of bytes taken, 3 to 11. The errors
+    /// are those above. Where the reader tells a permitted spelling and refuses no byte of it, the answer is `Ok`.
     fn decode<R: Reader>(&self, words: &mut R) -> Result<Instruction, DecodeError>
         ensures decoded { IfOk result
             (TakesInstruction (settings self.now) (marked (R.state words.old)) (R.state words.new)) }

@@ -131,7 +131,8 @@ pub fn operands_asked(
     instruction: &Instruction,
 ) -> Option<Asked>
     ensures fit { IsSome result ↔ OperandsFit (kind_seen kind) index_bank slots.now instruction.now.meaning.operands }
-    ensures asked { IfSome result (IsAsked instruction.now.meaning.operands slots.now instruction.now.meaning.operands) }
+    ensures asked { IfSome result (IsAsked instruction.now.meaning.operands slots.now
+        instruction.now.meaning.operands) }
 {
     if usize::from(instruction.operand_count()) != slots.len() {
         return None;

@@ -1,6 +1,6 @@
-//! What no clause says: the instructions and the errors of given bytes.
+//! What no clause says: the instructions and the errors of given bytes, and that eleven bytes are a spelling's most.
 
-use crate::recode;
+use crate::{Spelling, recode};
 use std::process::Abort;
 use std::test::Fail;
 use x86_operand::DecodeError::{ExhaustedInput, InvalidOpcode, InvalidOperand, Outside};
@@ -131,4 +131,12 @@ fn spellings_are_equal_where_their_bytes_are(rt: HostRuntime) -> Result<(), Fail
     assert!(rt; long == short);
     assert!(rt; long != other);
     Ok(())
+}
+
+#[test]
+fn bytes_are_a_spelling_up_to_eleven(rt: HostRuntime) {
+    let bytes = [1u8, 2, 3, 4, 5, 6, 7, 8, 9, 10, 11, 12];
+    assert!(rt; Spelling::of(&bytes).is_none());
+    let spelling = Spelling::of(&bytes[..11]).expect(&rt, "eleven fit");
+    assert_eq!(rt; spelling.as_slice(), &bytes[..11]);
 }

@@ -3,7 +3,6 @@
 use crate::{first_spelling, spelling_after};
 use std::process::Abort;
 use vex_decode::Decoder;
-use vex_encode::Spelling;
 use x86_operand::{Instruction, Opcode};
 use x86_settings::InstDecoder;
 
@@ -131,12 +130,4 @@ fn the_next_comes_after_any_bytes(rt: HostRuntime) {
     assert!(rt; spelling_after(&instruction, &[0xC5, 0xF8, 0x77]).is_none());
     assert!(rt; spelling_after(&instruction, &[0xFF]).is_none());
     assert!(rt; first_spelling(&Instruction::of(Opcode::VZEROUPPER, true)).is_none());
-}
-
-#[test]
-fn bytes_are_a_spelling_up_to_eleven(rt: HostRuntime) {
-    let bytes = [1u8, 2, 3, 4, 5, 6, 7, 8, 9, 10, 11, 12];
-    assert!(rt; Spelling::of(&bytes).is_none());
-    let spelling = Spelling::of(&bytes[..11]).expect(&rt, "eleven fit");
-    assert_eq!(rt; spelling.as_slice(), &bytes[..11]);
 }
