@@ -56,8 +56,10 @@ impl LineBuffer {
             self.is_long = true;
             return;
         }
-        // There is room.
-        let _ = self.kept.try_extend_from_slice(bytes);
+        match self.kept.try_extend_from_slice(bytes) {
+            Ok(()) => {}
+            Err(_) => unreachable!(),
+        }
     }
 
     /// Begins the next line.
