@@ -5,7 +5,7 @@ ghost use Rattle.std.specs.Prelude.{MatchResult};
 ghost use Rattle.hex.specs.Hex.{decode_of};
 ghost use Rattle.vex_tool.specs.Ends.{Answers, Writes};
 ghost use Rattle.vex_tool.specs.ErrorLine.{error_line};
-ghost use Rattle.vex_tool.specs.Report.{report, code, code_report, digits, is_blank};
+ghost use Rattle.vex_tool.specs.Report.{report, code, code_report, digits};
 ghost use Rattle.vex_tool.specs.Report.{line_error_name, takes_memory, MayLackMemory};
 
 use crate::asm_line::write_asm_line;
@@ -21,6 +21,7 @@ use crate::spelling_lines::write_spellings;
 use crate::sweep_lines::write_sweep;
 use arrayvec::ArrayVec;
 use std::alloc::Global;
+use vex_asm::is_blank;
 use x86_operand::FieldDescription;
 use x86_reader::ListSink;
 
@@ -49,12 +50,6 @@ impl LineError {
             LineError::BadHex => "BadHex",
         }
     }
-}
-
-fn is_blank(byte: u8) -> bool
-    ensures { result ≡ is_blank byte }
-{
-    matches!(byte, b' ' | b'\t' | b'\r')
 }
 
 // Keeps the line without its spaces, tabs and bytes 13.
