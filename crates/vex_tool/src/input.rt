@@ -7,7 +7,7 @@ ghost use Rattle.vex_tool.specs.Report.{report, MayLackMemory};
 ghost use Rattle.vex_tool.specs.Run.{Ran};
 
 use crate::command::Command;
-use crate::emulate_lines::MEMORY;
+use crate::emulate_lines::MEMORY_BYTES;
 use crate::ends::{Failed, PIECE, Sink, Source};
 use crate::halt::Halt;
 use crate::line_buffer::{LineBuffer, feed, finish};
@@ -70,7 +70,7 @@ pub fn answer_input<S: Source, K: Sink>(
         }) }
 {
     let mut line = LineBuffer::new();
-    let mut memory = [0; MEMORY];
+    let mut memory = [0; MEMORY_BYTES];
     let mut lent = LineRoom::new(&mut memory);
     let mut buffer = [0u8; PIECE];
     let mut room = INPUT_LIMIT;

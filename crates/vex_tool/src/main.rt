@@ -45,6 +45,7 @@ use words::{MAX_WORD_LEN, Words};
 
 mod asm_line;
 mod command;
+mod counting_bytes;
 #[cfg(test)]
 mod edge_tests;
 mod emulate_lines;

@@ -10,7 +10,7 @@ ghost use Rattle.vex_tool.specs.Report.{line_error_name, takes_memory, MayLackMe
 
 use crate::asm_line::write_asm_line;
 use crate::command::Command;
-use crate::emulate_lines::{LineMachine, MEMORY, write_emulated};
+use crate::emulate_lines::{LineMachine, MEMORY_BYTES, write_emulated};
 use crate::ends::{Failed, Sink};
 use crate::halt::Halt;
 use crate::least_lines::write_least;
@@ -100,7 +100,7 @@ pub struct LineRoom<'a> {
 
 impl<'a> LineRoom<'a> {
     /// Room that holds nothing yet. The memory is the machine's.
-    pub fn new(memory: &'a mut [u8; MEMORY]) -> LineRoom<'a> {
+    pub fn new(memory: &'a mut [u8; MEMORY_BYTES]) -> LineRoom<'a> {
         LineRoom {
             digits: ArrayVec::new(),
             bytes: [0; MAX_CODE],
