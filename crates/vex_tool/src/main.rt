@@ -70,6 +70,8 @@ mod memory_ends;
 mod note_lines;
 mod report;
 mod result_line;
+#[cfg(test)]
+mod run_tests;
 mod spelling_lines;
 #[cfg(test)]
 mod spelling_tests;
@@ -77,7 +79,7 @@ mod status;
 mod std_ends;
 mod sweep_lines;
 #[cfg(test)]
-mod tests;
+mod test_parts;
 mod words;
 
 /// Runs the command that the words ask for, over all that the source has left.
