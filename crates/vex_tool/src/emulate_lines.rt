@@ -31,6 +31,9 @@ const VECTORS: u8 = 16;
 /// A vector of the machine at the start begins with so many times its number.
 const VECTOR_STEP: usize = 16;
 
+/// A general register at the start holds so many times its number.
+const NUMBER_STEP: u64 = 32;
+
 // A vector at the start.
 fn start_vector(i: u8) -> &'static [u8]
     requires { i < 16 }
@@ -52,7 +55,7 @@ fn put_back(machine: &mut Machine<'_>)
         let mut vector = [0; BLOCK_BYTES];
         vector.copy_from_slice(start_vector(i));
         machine.set_vector(i, &vector);
-        machine.set_q(i, 32 * u64::from(i));
+        machine.set_q(i, NUMBER_STEP * u64::from(i));
     }
 }
 

@@ -54,7 +54,6 @@ mod ends;
 mod example;
 mod gatherer;
 mod generator;
-mod halt;
 mod input;
 mod laws;
 mod least_lines;
@@ -65,6 +64,7 @@ mod line_text;
 mod make_line;
 #[cfg(test)]
 mod make_tests;
+mod stop;
 // For callers of `run` over memory; here the tests alone.
 mod memory_ends;
 mod note_lines;
