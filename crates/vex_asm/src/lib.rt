@@ -34,3 +34,4 @@ pub use error::AsmError;
 pub use laws::{meaning_of_line, text_assembles, texts_are_words, texts_differ};
 pub use printer::{MeaningText, print};
 pub use reader::read;
+pub use words::is_blank;

@@ -4,8 +4,8 @@ ghost use Rattle.std.specs.Prelude.{◌≡◌, ◌≤◌, ◌<◌, ◌∷◌, []
 ghost use Rattle.std.specs.Option.{MatchOption};
 ghost use Rattle.vex_asm.specs.Text.{is_blank, line_parts};
 
-// Whether a byte is a space, a tab or a carriage return.
-fn is_blank(byte: u8) -> bool
+/// Whether a byte is a space, a tab or a carriage return, which no word holds.
+pub fn is_blank(byte: u8) -> bool
     ensures { result ≡ is_blank byte }
 {
     matches!(byte, b' ' | b'\t' | b'\r')

@@ -4,8 +4,8 @@ use Rattle.std.proofs.Common.{subst, refl, ◌∙◌}
 use Rattle.std.proofs.lemmas.List.{append-nil, append_assoc, nil_from_length, take-append-drop}
 use Rattle.std.specs.Io.KnownBytes.{Appends, Consumes, Keeps}
 use Rattle.std.specs.Prelude.{OnOk, OnErr}
-use Rattle.vex_tool.specs.declared.halt.Halt.{Halt}
-use Rattle.vex_tool.specs.declared.halt.Halt.TheVariants.{WriteFault, NoMemory}
+use Rattle.vex_tool.specs.declared.stop.Stop.{Stop}
+use Rattle.vex_tool.specs.declared.stop.Stop.TheVariants.{WriteFault, NoMemory}
 use Rattle.vex_tool.specs.Ends.{Answers, AppendsFront, RoseOrIsLast, WhereTaken, Writes}
 
 -- ---- what is written
@@ -150,7 +150,7 @@ Writes-handed_on (Err e) old mid new before between after text written same keep
 -- ---- texts written where memory may lack
 
 -- a text was written
-pub Answers-all : (P : List ℕ → Type 0) (result : Result (Unit {0}) Halt) (x : Unit {0}) (old new : Option (List ℕ))
+pub Answers-all : (P : List ℕ → Type 0) (result : Result (Unit {0}) Stop) (x : Unit {0}) (old new : Option (List ℕ))
     (before after : ℕ) (text : List ℕ)
     → result ≡ Ok x → Appends old new text → after ≡ before → Answers P result old new before after text
 Answers-all P result x old new before after text is written quiet = rw is (record {
@@ -175,7 +175,7 @@ Answers-fault P old new before after text front cause = record {
 }
 
 -- what holds where memory lacked may be said otherwise
-pub Answers-as : (P Q : List ℕ → Type 0) (result : Result (Unit {0}) Halt) (old new : Option (List ℕ))
+pub Answers-as : (P Q : List ℕ → Type 0) (result : Result (Unit {0}) Stop) (old new : Option (List ℕ))
     (before after : ℕ) (text : List ℕ)
     → ((written : List ℕ) → P written → Q written) → Answers P result old new before after text
     → Answers Q result old new before after text
@@ -238,7 +238,7 @@ Writing-none text rest old now new w none =
     }
 
 -- a text was written, and then handed on or not
-pub Answers-handed_on : (P : List ℕ → Type 0) (result : Result (Unit {0}) Halt) (old mid new : Option (List ℕ))
+pub Answers-handed_on : (P : List ℕ → Type 0) (result : Result (Unit {0}) Stop) (old mid new : Option (List ℕ))
     (before between after : ℕ) (text : List ℕ)
     → Appends old mid text → between ≡ before → Answers (λ _. ⊥) result mid new between after []
     → Answers P result old new before after text

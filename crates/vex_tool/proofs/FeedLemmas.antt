@@ -7,7 +7,7 @@ use Rattle.std.proofs.Math.Seq.{take-length}
 use Rattle.std.proofs.lemmas.Bool.{eqb-true}
 use Rattle.memchr.specs.Find.{IsFirstByte, is_byte}
 use Rattle.std.specs.Io.KnownBytes.{Appends, Keeps}
-use Rattle.vex_tool.specs.declared.halt.Halt.{Halt}
+use Rattle.vex_tool.specs.declared.stop.Stop.{Stop}
 use Rattle.vex_tool.specs.Ends.{Answers, AppendsFront, IsStopped, RoseOrIsLast}
 use Rattle.vex_tool.specs.LineMachine.{EndedBefore, appended, kept_report, line_after, ended}
 use Rattle.vex_tool.proofs.EndsLemmas.{Answers-fault, Appends-keeps, Appends-none, Appends-then, AppendsFront-keeps}
@@ -121,14 +121,14 @@ module _ (f : List ℕ → List ℕ) (first : Option (List ℕ)) (sink : Told) (
       (rw (ended-inside f line rest none) (Appends-none now.text)) refl)
 
   -- the report of a line of the piece wasn't written
-  pub FedUpTo-stopped : (P : List ℕ → Type 0) (at : ℕ) (new : Option (List ℕ)) (after : ℕ) (halt : Halt)
+  pub FedUpTo-stopped : (P : List ℕ → Type 0) (at : ℕ) (new : Option (List ℕ)) (after : ℕ) (stop : Stop)
       → EndsAt rest at
-      → Answers (λ written. (written ≡ []) × IsSomeAnd (appended line (take at rest)) P) (Err halt) now.text new
+      → Answers (λ written. (written ≡ []) × IsSomeAnd (appended line (take at rest)) P) (Err stop) now.text new
       now.faults after
       (kept_report f (appended line (take at rest)))
-      → Answers (λ written. EndedBefore f P first piece written) (Err halt) sink.text new sink.faults after
+      → Answers (λ written. EndedBefore f P first piece written) (Err stop) sink.text new sink.faults after
       (ended f first piece)
-  FedUpTo-stopped P at new after halt ends h =
+  FedUpTo-stopped P at new after stop ends h =
       let b = get_or rest at 0 in
       let fed = so_far.fed in
       let split = split-line at ends.within in record {
@@ -177,12 +177,12 @@ ended-before f P line piece written h = (
 
 -- the answers before a line that there was no memory for were handed on, or that failed
 pub Fed-stopped-handed_on : (f : List ℕ → List ℕ) (P : List ℕ → Type 0) (line : Option (List ℕ)) (piece : List ℕ)
-    (halt result : Halt)
+    (stop result : Stop)
     (old mid new : Option (List ℕ)) (before between after : ℕ)
-    → Answers (λ written. EndedBefore f P line piece written) (Err halt) old mid before between (ended f line piece)
-    → Keeps mid new → IsStopped halt result between after
+    → Answers (λ written. EndedBefore f P line piece written) (Err stop) old mid before between (ended f line piece)
+    → Keeps mid new → IsStopped stop result between after
     → Answers (λ written. EndedBefore f P line piece written) (Err result) old new before after (ended f line piece)
-Fed-stopped-handed_on f P line piece halt result old mid new before between after h keeps (inl same) = record {
+Fed-stopped-handed_on f P line piece stop result old mid new before between after h keeps (inl same) = record {
   appends = tt;
   quiet = tt;
   front = λ is. AppendsFront-keeps old mid new _ (h.front (ap Err (sym same.0) ∙ is)) keeps;
@@ -192,7 +192,7 @@ Fed-stopped-handed_on f P line piece halt result old mid new before between afte
       (lacked.0, lacked.1, Appends-keeps old mid new lacked.0 lacked.2 keeps);
   lacked_quiet = λ is. same.1 ∙ h.lacked_quiet (ap Err (sym same.0) ∙ is);
 }
-Fed-stopped-handed_on f P line piece halt result old mid new before between after h keeps (inr failed) =
+Fed-stopped-handed_on f P line piece stop result old mid new before between after h keeps (inr failed) =
     let is = ap Err failed.0 in
     let lacked = h.lacked is in
     let written = Appends-keeps old mid new lacked.0 lacked.2 keeps in

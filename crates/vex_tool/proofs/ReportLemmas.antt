@@ -13,7 +13,8 @@ use Rattle.vex_tool.specs.declared.command.Command.{Command}
 use Rattle.vex_tool.specs.declared.command.Command.TheVariants.{Recode, Sweep, Notes, Asm, Emulate, Spellings, Least}
 use Rattle.vex_tool.specs.declared.command.Command.TheVariants.{Make}
 use Rattle.vex_tool.specs.declared.report.LineError.TheVariants.{BadHex, LongLine}
-use Rattle.vex_tool.specs.Report.{report, code, code_report, digits, is_blank, or_bad_hex, taken}
+use Rattle.vex_asm.specs.Text.{is_blank}
+use Rattle.vex_tool.specs.Report.{report, code, code_report, digits, or_bad_hex, taken}
 use Rattle.vex_tool.proofs.LineMachineLemmas.{SameForLong}
 
 -- room for half as many bytes as there are digits is as good as any

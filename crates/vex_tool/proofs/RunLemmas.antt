@@ -6,14 +6,14 @@ use Rattle.std.specs.Io.KnownBytes.{Appends, Consumes, Keeps, IsAtEnd}
 use Rattle.std.specs.List.{flat_map}
 use Rattle.std.proofs.lemmas.Bool.{cases_lt}
 use Rattle.std.proofs.lemmas.List.{append-nil, length-append, length-take-le, take_at}
-use Rattle.vex_tool.specs.declared.halt.Halt.{Halt}
-use Rattle.vex_tool.specs.declared.halt.Halt.TheVariants as halt
+use Rattle.vex_tool.specs.declared.stop.Stop.{Stop}
+use Rattle.vex_tool.specs.declared.stop.Stop.TheVariants as stop
 use Rattle.vex_tool.specs.declared.status.Status.TheVariants.{Done, ReadFault, WriteFault, NoMemory, TooLong}
 use Rattle.vex_tool.specs.Ends.{Answers, AppendsFront, RoseOrIsLast, counted}
 use Rattle.vex_tool.specs.Lines.{lines, whole}
 use Rattle.vex_tool.specs.LineMachine.{EndedBefore, line_after, ended, last}
 use Rattle.vex_tool.specs.Run.{Moment, Ran, input_limit}
-use Rattle.vex_tool.specs.Status.{status_of_halt}
+use Rattle.vex_tool.specs.Status.{status_of_stop}
 use Rattle.vex_tool.proofs.EndsLemmas.{Appends-keeps, Appends-none, Appends-then, AppendsFront-all, AppendsFront-then}
 use Rattle.vex_tool.proofs.EndsLemmas.{AppendsFront-more, Consumes-none, Consumes-then, Consumes-keeps}
 use Rattle.vex_tool.proofs.LineMachineLemmas.{SameForLong, begun-is, begun_line, ended-append, ended_lines}
@@ -360,26 +360,26 @@ module _ (f : List ℕ → List ℕ) (before : Moment) where
 
     -- ---- by what stopped the answers
 
-    pub Ran-feed_halted : SameForLong f → (piece : List ℕ) (mid : Moment) (text : Option (List ℕ)) (faults : ℕ)
-        (halt : Halt)
+    pub Ran-feed_stopped : SameForLong f → (piece : List ℕ) (mid : Moment) (text : Option (List ℕ)) (faults : ℕ)
+        (stop : Stop)
         → Gave piece now mid → length piece ≤ room
-        → Answers (λ written. EndedBefore f P line piece written) (Err halt) mid.text text mid.sink_faults faults
+        → Answers (λ written. EndedBefore f P line piece written) (Err stop) mid.text text mid.sink_faults faults
         (ended f line piece)
-        → Ran f P (status_of_halt halt) before (record mid { text = text; sink_faults = faults })
-    Ran-feed_halted long piece mid text faults halt.WriteFault gave fits h =
+        → Ran f P (status_of_stop stop) before (record mid { text = text; sink_faults = faults })
+    Ran-feed_stopped long piece mid text faults stop.WriteFault gave fits h =
         Ran-feed_fault long piece mid text faults gave fits (h.front refl) (h.cause refl)
-    Ran-feed_halted long piece mid text faults halt.NoMemory gave fits h =
+    Ran-feed_stopped long piece mid text faults stop.NoMemory gave fits h =
         let lacked = h.lacked refl in
         Ran-feed_lacked long piece mid text faults lacked.0 gave fits lacked.1 lacked.2 (h.lacked_quiet refl)
 
-    pub Ran-finish_halted : SameForLong f → (mid : Moment) (text : Option (List ℕ)) (faults : ℕ) (halt : Halt)
+    pub Ran-finish_stopped : SameForLong f → (mid : Moment) (text : Option (List ℕ)) (faults : ℕ) (stop : Stop)
         → Gave [] now mid
-        → Answers (λ written. (written ≡ []) × (line ≢ Some []) × IsSomeAnd line P) (Err halt) mid.text text
+        → Answers (λ written. (written ≡ []) × (line ≢ Some []) × IsSomeAnd line P) (Err stop) mid.text text
         mid.sink_faults faults (last f line)
-        → Ran f P (status_of_halt halt) before (record mid { text = text; sink_faults = faults })
-    Ran-finish_halted long mid text faults halt.WriteFault gave h =
+        → Ran f P (status_of_stop stop) before (record mid { text = text; sink_faults = faults })
+    Ran-finish_stopped long mid text faults stop.WriteFault gave h =
         Ran-finish_fault long mid text faults gave (h.front refl) (h.cause refl)
-    Ran-finish_halted long mid text faults halt.NoMemory gave h =
+    Ran-finish_stopped long mid text faults stop.NoMemory gave h =
         let lacked = h.lacked refl in
         Ran-finish_lacked long mid text faults gave lacked.1.1 lacked.1.2
         (subst (λ t. Appends mid.text text t) lacked.1.0 lacked.2) (h.lacked_quiet refl)

@@ -1,8 +1,9 @@
 -- What is written for a line, and for some bytes.
-use Rattle.std.specs.Prelude.{ℕ, ◌==◌, nat_lt, Bool, true, false, not, ◌||◌, List, [], length, filter, flat_map, codes}
+use Rattle.std.specs.Prelude.{ℕ, nat_lt, Bool, true, false, not, List, [], length, filter, flat_map, codes}
 use Rattle.std.specs.Prelude.{Option, Some, None, Result, Ok, Err, IsOk, if◌then◌else◌}
 use Rattle.hex.specs.Hex.{decode_of}
 use Rattle.hex.specs.declared.error.FromHexError.{FromHexError}
+use Rattle.vex_asm.specs.Text.{is_blank}
 use Rattle.vex_tool.specs.declared.command.Command.{Command}
 use Rattle.vex_tool.specs.Command.{count_made}
 use Rattle.vex_encode.specs.Sweep.{swept}
@@ -26,11 +27,7 @@ abbrev pub line_error_name : LineError → List ℕ
 line_error_name LongLine = codes "LongLine"
 line_error_name BadHex = codes "BadHex"
 
--- whether a byte of a line is dropped: a space, a tab or a byte 13
-abbrev pub is_blank : ℕ → Bool
-is_blank b = b == 32 || b == 9 || b == 13
-
--- what is left of a line
+-- what is left of a line without its spaces, tabs and bytes 13
 abbrev pub digits : List ℕ → List ℕ
 digits line = filter (λ b. not (is_blank b)) line
 

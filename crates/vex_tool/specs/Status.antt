@@ -1,7 +1,7 @@
 -- The numbers and the names of the ways in which a run ends.
 use Rattle.std.specs.Prelude.{ℕ, List, codes}
-use Rattle.vex_tool.specs.declared.halt.Halt.{Halt}
-use Rattle.vex_tool.specs.declared.halt.Halt.TheVariants as halt
+use Rattle.vex_tool.specs.declared.stop.Stop.{Stop}
+use Rattle.vex_tool.specs.declared.stop.Stop.TheVariants as stop
 use Rattle.vex_tool.specs.declared.status.Status.{Status}
 use Rattle.vex_tool.specs.declared.status.Status.TheVariants.{Done, ReadFault, Usage, WriteFault, NoMemory, TooLong}
 
@@ -24,6 +24,6 @@ name_of NoMemory = codes "NoMemory"
 name_of TooLong = codes "TooLong"
 
 -- the status of a run that stops so
-abbrev pub status_of_halt : Halt → Status
-status_of_halt halt.WriteFault = WriteFault
-status_of_halt halt.NoMemory = NoMemory
+abbrev pub status_of_stop : Stop → Status
+status_of_stop stop.WriteFault = WriteFault
+status_of_stop stop.NoMemory = NoMemory

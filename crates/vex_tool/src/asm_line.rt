@@ -20,10 +20,7 @@ fn is_permitted(settings: &InstDecoder, instruction: &Instruction) -> bool
     ensures { result ≡ permits settings.now instruction.now.meaning.evex instruction.now.meaning.opcode }
 {
     let mut revised = *instruction;
-    match revise_instruction(settings, &mut revised) {
-        Ok(()) => true,
-        Err(_) => false,
-    }
+    revise_instruction(settings, &mut revised).is_ok()
 }
 
 // Makes the text the line of canonical bytes, whose opcode is permitted or not.

@@ -3,11 +3,12 @@
 
 ghost use Rattle.std.specs.Prelude.{None};
 
-use crate::ends::{Failed, Sink, Source};
+use crate::ends::{Failed, Sink};
 use crate::gatherer::Gatherer;
 use crate::memory_ends::{MemSink, MemSource};
 use crate::status::Status;
 use crate::std_ends::{StdSink, StdSource};
+use crate::test_parts::{Asked, words_of};
 use crate::words::Words;
 use crate::{push_arguments, run};
 use arrayvec::ArrayVec;
@@ -105,15 +106,10 @@ impl Write for SlowWriter<'_> {
     }
 }
 
+const RECODE: &[&str] = &["recode", "default"];
+
 // More than 2^18 bytes of input.
 const LINES: usize = 40_000;
-
-fn recode_default() -> Words {
-    let mut words = Words::new();
-    words.push("recode");
-    words.push("default");
-    words
-}
 
 #[test]
 fn a_long_input_in_odd_pieces_is_answered_in_short_writes(rt: HostRuntime) -> Result<(), Fail> {
@@ -130,11 +126,11 @@ fn a_long_input_in_odd_pieces_is_answered_in_short_writes(rt: HostRuntime) -> Re
         let mut writer = SlowWriter::new(&mut out, most, NEVER);
         let status = run(
             rt.alloc(),
-            &recode_default(),
+            &words_of(RECODE),
             &mut StdSource::new(&mut reader),
             &mut StdSink::new(&mut writer),
         );
-        assert_eq!(rt; status.code(), 0);
+        assert_eq!(rt; status, Status::Done);
         assert_eq!(rt; writer.call, writes);
         // Nothing is read after the end.
         assert_eq!(rt; reader.ends, 1);
@@ -144,7 +140,7 @@ fn a_long_input_in_odd_pieces_is_answered_in_short_writes(rt: HostRuntime) -> Re
 }
 
 #[test]
-fn a_read_that_failed_is_not_tried_again(rt: HostRuntime) -> Result<(), Fail> {
+fn a_read_that_failed_is_not_tried_again(rt: HostRuntime) {
     let input = b"c5f877\nc5fc77\n33".as_slice();
     // The first call gives one byte, and the second all that is left.
     let cases = [
@@ -158,20 +154,19 @@ fn a_read_that_failed_is_not_tried_again(rt: HostRuntime) -> Result<(), Fail> {
         let mut sink = MemSink::new(&mut room, &[]);
         let status = run(
             rt.alloc(),
-            &recode_default(),
+            &words_of(RECODE),
             &mut StdSource::new(&mut reader),
             &mut sink,
         );
-        assert_eq!(rt; status.code(), 1, "at {failing}");
+        assert_eq!(rt; status, Status::ReadFault, "at {failing}");
         assert_eq!(rt; sink.written(), text.as_bytes(), "at {failing}");
         assert_eq!(rt; reader.call, failing + 1);
         assert_eq!(rt; reader.rest.len(), left, "at {failing}");
     }
-    Ok(())
 }
 
 #[test]
-fn a_write_that_failed_is_not_tried_again(rt: HostRuntime) -> Result<(), Fail> {
+fn a_write_that_failed_is_not_tried_again(rt: HostRuntime) {
     // How many bytes a call takes, which call fails, how many calls there are, and what is written.
     let cases = [
         (NEVER, 0, 1, ""),
@@ -186,19 +181,18 @@ fn a_write_that_failed_is_not_tried_again(rt: HostRuntime) -> Result<(), Fail> {
         let mut writer = SlowWriter::new(&mut out, most, failing);
         let status = run(
             rt.alloc(),
-            &recode_default(),
+            &words_of(RECODE),
             &mut source,
             &mut StdSink::new(&mut writer),
         );
-        assert_eq!(rt; status.code(), 3, "at {failing}");
+        assert_eq!(rt; status, Status::WriteFault, "at {failing}");
         assert_eq!(rt; writer.call, calls, "at {failing}");
         assert_eq!(rt; out.as_slice(), text.as_bytes(), "at {failing}");
     }
-    Ok(())
 }
 
 #[test]
-fn a_flush_that_failed_is_not_tried_again(rt: HostRuntime) -> Result<(), Fail> {
+fn a_flush_that_failed_is_not_tried_again(rt: HostRuntime) {
     // Which flush fails, how many reads there are, and what is written. The fourth read finds the end.
     let cases = [
         (0, 0, ""),
@@ -213,16 +207,15 @@ fn a_flush_that_failed_is_not_tried_again(rt: HostRuntime) -> Result<(), Fail> {
         writer.failing_flush = failing;
         let status = run(
             rt.alloc(),
-            &recode_default(),
+            &words_of(RECODE),
             &mut source,
             &mut StdSink::new(&mut writer),
         );
-        assert_eq!(rt; status.code(), 3, "at {failing}");
+        assert_eq!(rt; status, Status::WriteFault, "at {failing}");
         assert_eq!(rt; writer.flushes, failing + 1, "at {failing}");
         assert_eq!(rt; writer.call, reads.min(3), "at {failing}");
         assert_eq!(rt; out.as_slice(), text.as_bytes(), "at {failing}");
     }
-    Ok(())
 }
 
 #[test]
@@ -239,11 +232,11 @@ fn gathered_answers_are_one_write_for_each_read(rt: HostRuntime) -> Result<(), F
         let mut writer = SlowWriter::new(&mut out, most, NEVER);
         let status = run(
             rt.alloc(),
-            &recode_default(),
+            &words_of(RECODE),
             &mut StdSource::new(&mut reader),
             &mut StdSink::new(Gatherer::new(&mut writer)),
         );
-        assert_eq!(rt; status.code(), 0);
+        assert_eq!(rt; status, Status::Done);
         if most == NEVER {
             assert!(rt; writer.call <= reader.call);
         }
@@ -253,7 +246,7 @@ fn gathered_answers_are_one_write_for_each_read(rt: HostRuntime) -> Result<(), F
 }
 
 #[test]
-fn a_gathered_write_that_failed_is_a_write_fault(rt: HostRuntime) -> Result<(), Fail> {
+fn a_gathered_write_that_failed_is_a_write_fault(rt: HostRuntime) {
     // How many bytes a call takes, which call fails, how many calls there are, and what is written.
     let cases = [
         (NEVER, 0, 1, ""),
@@ -270,15 +263,14 @@ fn a_gathered_write_that_failed_is_a_write_fault(rt: HostRuntime) -> Result<(), 
         let mut writer = SlowWriter::new(&mut out, most, failing);
         let status = run(
             rt.alloc(),
-            &recode_default(),
+            &words_of(RECODE),
             &mut source,
             &mut StdSink::new(Gatherer::new(&mut writer)),
         );
-        assert_eq!(rt; status.code(), 3, "at {failing}");
+        assert_eq!(rt; status, Status::WriteFault, "at {failing}");
         assert_eq!(rt; writer.call, calls, "at {failing}");
         assert_eq!(rt; out.as_slice(), text.as_bytes(), "at {failing}");
     }
-    Ok(())
 }
 
 // Notes its calls in their order, a write as W and a flush as F.
@@ -321,39 +313,16 @@ const CALLS: [(&[&str], &[u8], &[u8]); 6] = [
 #[test]
 fn what_is_held_back_is_handed_on_before_each_read_and_at_the_end(rt: HostRuntime) {
     for (at, &(list, input, calls)) in CALLS.iter().enumerate() {
-        let mut words = Words::new();
-        for word in list {
-            words.push(word);
-        }
         let mut sink = Noting {
             calls: ArrayVec::new(),
         };
         run(
             rt.alloc(),
-            &words,
+            &words_of(list),
             &mut MemSource::new(input, 7, &[]),
             &mut sink,
         );
         assert_eq!(rt; sink.calls.as_slice(), calls, "at {at}");
-    }
-}
-
-// A source that gives nothing, and counts how often it is asked.
-#[derive(Drop)]
-struct Asked {
-    calls: u64,
-}
-
-impl Source for Asked {
-    ghost left = { λ _. None };
-
-    ghost given = { λ _. 0 };
-
-    ghost faults = { λ _. 0 };
-
-    fn read(&mut self, _into: &mut [u8]) -> Result<usize, Failed> {
-        self.calls = self.calls.saturating_add(1);
-        Ok(0)
     }
 }
 
@@ -387,46 +356,38 @@ const LONG: &[u8] = b"xxxxxxxxxxxxxxxxxxxxxxxxxxxxxxxxxxxxxxxxxxxxxxxxxxxxxxxxxx
 const NO_TEXT: &[u8] = b"\xFFx";
 
 // Command lines, and the statuses that they end with.
-const COMMAND_LINES: [(&[&[u8]], u8); 10] = [
-    (&[b"vex_tool", b"recode", b"sandybridge"], 0),
-    (&[LONG, b"recode", b"sandybridge"], 0),
-    (&[b"vex_tool"], 2),
-    (&[], 2),
-    (&[b"vex_tool", b"recode"], 2),
-    (&[b"vex_tool", b"recode", b"default", LONG], 2),
-    (&[b"vex_tool", b"recode", LONG, b"default"], 2),
-    (&[b"vex_tool", b"recode", b"default", NO_TEXT], 2),
-    (&[b"vex_tool", NO_TEXT, b"recode", b"default"], 2),
-    (&[b"vex_tool", b"recode", b"default", b"", b"", b""], 2),
+const COMMAND_LINES: [(&[&[u8]], Status); 10] = [
+    (&[b"vex_tool", b"recode", b"sandybridge"], Status::Done),
+    (&[LONG, b"recode", b"sandybridge"], Status::Done),
+    (&[b"vex_tool"], Status::Usage),
+    (&[], Status::Usage),
+    (&[b"vex_tool", b"recode"], Status::Usage),
+    (&[b"vex_tool", b"recode", b"default", LONG], Status::Usage),
+    (&[b"vex_tool", b"recode", LONG, b"default"], Status::Usage),
+    (
+        &[b"vex_tool", b"recode", b"default", NO_TEXT],
+        Status::Usage,
+    ),
+    (
+        &[b"vex_tool", NO_TEXT, b"recode", b"default"],
+        Status::Usage,
+    ),
+    (
+        &[b"vex_tool", b"recode", b"default", b"", b"", b""],
+        Status::Usage,
+    ),
 ];
 
 #[test]
 fn each_argument_is_a_word_or_refuses_the_run(rt: HostRuntime) {
-    for (at, &(arguments, code)) in COMMAND_LINES.iter().enumerate() {
+    for (at, &(arguments, want)) in COMMAND_LINES.iter().enumerate() {
         let mut words = Words::new();
         push_arguments(&Arguments(arguments), &mut words);
         let mut source = Asked { calls: 0 };
         let mut sink = MemSink::new(&mut [], &[]);
         let status = run(rt.alloc(), &words, &mut source, &mut sink);
-        assert_eq!(rt; status.code(), code, "at {at}");
+        assert_eq!(rt; status, want, "at {at}");
         // Nothing is read where the words are no command.
-        assert_eq!(rt; source.calls == 0, code == 2, "at {at}");
-    }
-}
-
-#[test]
-fn no_status_equals_another(rt: HostRuntime) {
-    let all = [
-        Status::Done,
-        Status::ReadFault,
-        Status::Usage,
-        Status::WriteFault,
-        Status::NoMemory,
-        Status::TooLong,
-    ];
-    for a in all {
-        for b in all {
-            assert_eq!(rt; a == b, a.code() == b.code(), "{a:?} and {b:?}");
-        }
+        assert_eq!(rt; source.calls == 0, want == Status::Usage, "at {at}");
     }
 }

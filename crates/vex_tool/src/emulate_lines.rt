@@ -1,45 +1,45 @@
 //! What a run of code changes in a machine, which is put back to the start for each line.
 
-ghost use Rattle.std.specs.Prelude.{◌≡◌, ◌≤◌, ◌+◌, ◌++◌, codes, decimal, length};
+ghost use Rattle.std.specs.Prelude.{◌≡◌, ◌<◌, ◌≤◌, ◌+◌, ◌++◌, codes, decimal, length};
 ghost use Rattle.std.specs.Simd.Lanes.{chunk};
 ghost use Rattle.hex.specs.Hex.{encode_lower};
-ghost use Rattle.vex_tool.specs.EmulateLines.{block_lines, changed_line, counting, emulate_lines, ran_line};
+ghost use Rattle.vex_tool.specs.EmulateLines.{block_lines, changed_line, emulate_lines, ran_line, start, start_vector};
 ghost use Rattle.vex_tool.specs.EmulateLines.{vector_lines};
 ghost use Rattle.vex_emul.specs.Run.{ran};
-ghost use Rattle.vex_tool.specs.EmulateLines.{start};
 ghost use Rattle.vex_tool.specs.Ends.{Writes};
 
+use crate::counting_bytes::counting;
 use crate::ends::{Failed, Sink};
-use crate::line_text::{LineText, push_hex};
+use crate::line_text::{LineText, push_hex, push_stopped};
 use std::marker::Model;
 use vex_asm::append_number;
 use vex_emul::{Halt, Machine, run_code};
 use x86_settings::InstDecoder;
 
 /// How many bytes the memory of the machine has.
-pub const MEMORY: usize = 1024;
+pub const MEMORY_BYTES: usize = 1024;
 
 /// How many bytes a vector has, and a block of the memory.
-const BLOCK: usize = 32;
+const BLOCK_BYTES: usize = 32;
 
-// Fills the bytes, which then count up from a number, modulo 256.
-fn count_up(first: usize, bytes: &mut [u8])
-    requires { first + length bytes.old ≤ 2048 }
-    ensures { bytes.new ≡ counting first (length bytes.old) }
-{
-    for i in 0..bytes.len() {
-        bytes[i] = ((first + i) % 256) as u8;
-    }
-}
+/// How many blocks the memory has.
+const BLOCKS: usize = MEMORY_BYTES / BLOCK_BYTES;
 
-// A vector, or a block of the memory, at the start, by what it begins with.
-fn block_from(first: usize) -> [u8; BLOCK]
-    requires { first ≤ 1024 }
-    ensures { result ≡ counting first 32 }
+/// How many vectors the machine has.
+const VECTORS: u8 = 16;
+
+/// A vector of the machine at the start begins with so many times its number.
+const VECTOR_STEP: usize = 16;
+
+/// A general register at the start holds so many times its number.
+const NUMBER_STEP: u64 = 32;
+
+// A vector at the start.
+fn start_vector(i: u8) -> &'static [u8]
+    requires { i < 16 }
+    ensures { result.now ≡ start_vector i }
 {
-    let mut bytes = [0; BLOCK];
-    count_up(first, &mut bytes);
-    bytes
+    counting(VECTOR_STEP * usize::from(i), BLOCK_BYTES)
 }
 
 // Puts a machine that may have run code back to the start.
@@ -48,10 +48,14 @@ fn put_back(machine: &mut Machine<'_>)
     ensures { machine.new ≡ start }
 {
     machine.reset();
-    count_up(0, machine.memory_mut());
-    for i in 0..16 {
-        machine.set_vector(i, &block_from(16 * usize::from(i)));
-        machine.set_q(i, 32 * u64::from(i));
+    machine
+        .memory_mut()
+        .copy_from_slice(counting(0, MEMORY_BYTES));
+    for i in 0..VECTORS {
+        let mut vector = [0; BLOCK_BYTES];
+        vector.copy_from_slice(start_vector(i));
+        machine.set_vector(i, &vector);
+        machine.set_q(i, NUMBER_STEP * u64::from(i));
     }
 }
 
@@ -75,7 +79,7 @@ impl<'a> Model for LineMachine<'a> {
 
 impl<'a> LineMachine<'a> {
     /// A machine over these bytes, which have no part in what a line writes.
-    pub fn new(memory: &'a mut [u8; MEMORY]) -> LineMachine<'a> {
+    pub fn new(memory: &'a mut [u8; MEMORY_BYTES]) -> LineMachine<'a> {
         LineMachine {
             machine: Machine::new(memory),
         }
@@ -134,10 +138,9 @@ fn write_vectors<K: Sink>(
     ensures { Writes result (K.text sink.old) (K.text sink.new) (K.faults sink.old) (K.faults sink.new)
         (vector_lines machine.now.vectors) }
 {
-    for i in 0..16 {
+    for i in 0..VECTORS {
         let number = usize::from(i);
-        let start = block_from(16 * number);
-        write_changed("y", number, machine.vector(i), &start, text, sink)?;
+        write_changed("y", number, machine.vector(i), start_vector(i), text, sink)?;
     }
     Ok(())
 }
@@ -148,7 +151,7 @@ fn block_at(memory: &[u8], place: usize) -> &[u8]
     ensures is { result.now ≡ chunk place 32 memory.now }
     ensures long { length result.now ≡ 32 }
 {
-    &memory[place..place + BLOCK]
+    &memory[place..place + BLOCK_BYTES]
 }
 
 // Writes the lines of the blocks of the memory that changed.
@@ -157,10 +160,10 @@ fn write_blocks<K: Sink>(memory: &[u8], text: &mut LineText, sink: &mut K) -> Re
     ensures { Writes result (K.text sink.old) (K.text sink.new) (K.faults sink.old) (K.faults sink.new)
         (block_lines memory.now) }
 {
-    for b in 0..32 {
-        let place = BLOCK * b;
-        let start = block_from(place);
-        write_changed("m", place, block_at(memory, place), &start, text, sink)?;
+    for b in 0..BLOCKS {
+        let place = BLOCK_BYTES * b;
+        let start = counting(place, BLOCK_BYTES);
+        write_changed("m", place, block_at(memory, place), start, text, sink)?;
     }
     Ok(())
 }
@@ -175,12 +178,7 @@ fn ran_text(text: &mut LineText, answer: &Result<usize, Halt>)
             text.push_str("end ");
             append_number(text, *count);
         }
-        Err(halt) => {
-            text.push_str("stopped ");
-            append_number(text, halt.place);
-            text.push_str(" ");
-            text.push_str(halt.cause.name());
-        }
+        Err(halt) => push_stopped(text, halt.place, halt.cause.name()),
     }
     text.push_str("\n");
 }

@@ -72,8 +72,10 @@ impl<W: Write> Write for Gatherer<W> {
             self.hand_on()?;
         }
         let n = buf.len().min(self.gathered.remaining_capacity());
-        // There is room.
-        let _ = self.gathered.try_extend_from_slice(&buf[..n]);
+        match self.gathered.try_extend_from_slice(&buf[..n]) {
+            Ok(()) => {}
+            Err(_) => unreachable!(),
+        }
         Ok(n)
     }
 

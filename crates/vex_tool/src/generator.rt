@@ -19,6 +19,16 @@ use vex_rows::{Entry, Form, Prefix, Rule, entry_at, entry_count};
 /// displacement and the immediate.
 const MAX_GENERATED: usize = 11;
 
+/// The field mod of a ModRM byte whose operand E is in memory, with four bytes of displacement (Intel SDM volume 2,
+/// table 2-2).
+const MOD_DISPLACED: u8 = 0x80;
+
+/// The field mod of a ModRM byte whose operand E is a register.
+const MOD_REGISTER: u8 = 0xC0;
+
+/// The field r/m of a ModRM byte that a SIB byte follows.
+const RM_SIB: u8 = 4;
+
 /// The bytes of a generated spelling.
 pub type Generated = ArrayVec<u8, MAX_GENERATED>;
 
@@ -39,33 +49,33 @@ fn bit_of(n: usize, weight: usize) -> bool
     n / weight % 2 == 1
 }
 
-// W in round t.
-fn w_made(rule: Rule, t: usize) -> bool
-    ensures { result ≡ w_made rule t }
+// W in a round.
+fn w_in_round(rule: Rule, round: usize) -> bool
+    ensures { result ≡ w_made rule round }
 {
     match rule {
-        Rule::Any => bit_of(t, 1),
+        Rule::Any => bit_of(round, 1),
         Rule::Zero => false,
         Rule::One => true,
     }
 }
 
-// L in round t where the rule leaves it open. One form demands 0 all the same.
-fn l_free(form: Form, t: usize) -> bool
-    ensures { result ≡ l_free form t }
+// L in a round where the rule leaves it open. One form demands 0 all the same.
+fn free_l_in_round(form: Form, round: usize) -> bool
+    ensures { result ≡ l_free form round }
 {
     match form {
         Form::G_E_xmm_imm8 => false,
-        _ => bit_of(t, 2),
+        _ => bit_of(round, 2),
     }
 }
 
-// L in round t.
-fn l_made(rule: Rule, form: Form, t: usize) -> bool
-    ensures { result ≡ l_made rule form t }
+// L in a round.
+fn l_in_round(rule: Rule, form: Form, round: usize) -> bool
+    ensures { result ≡ l_made rule form round }
 {
     match rule {
-        Rule::Any => l_free(form, t),
+        Rule::Any => free_l_in_round(form, round),
         Rule::Zero => false,
         Rule::One => true,
     }
@@ -105,70 +115,76 @@ fn row_made(entry: &Entry, w: bool, l: bool, memory: bool) -> Option<FoundRow>
     }
 }
 
-// The field vvvv in round t.
-fn v_made(rule: VvvvRule, t: usize) -> u8
-    ensures value { result ≡ v_made rule t }
+// The field vvvv in a round.
+fn vvvv_in_round(rule: VvvvRule, round: usize) -> u8
+    ensures value { result ≡ v_made rule round }
     ensures within { result < 16 }
 {
     match rule {
-        VvvvRule::Named => (t % 16) as u8,
+        VvvvRule::Named => (round % 16) as u8,
         VvvvRule::Zero | VvvvRule::Free => 0,
     }
 }
 
-// Appends ModRM and what belongs to it in round t.
-fn push_operand(bytes: &mut Generated, memory: bool, reg: u8, t: usize)
+// Appends ModRM and what belongs to it in a round.
+fn push_operand(bytes: &mut Generated, memory: bool, reg: u8, round: usize)
     requires reg { reg < 8 }
     requires room { array_vec_len bytes.old ≤ 4 }
-    ensures written { bytes.new.items ≡ bytes.old.items ++ operand_made memory reg t }
+    ensures written { bytes.new.items ≡ bytes.old.items ++ operand_made memory reg round }
     ensures short { array_vec_len bytes.new ≤ array_vec_len bytes.old + 6 }
 {
     if memory {
-        // There is room.
-        let _ = bytes.try_extend_from_slice(&[128 + 8 * reg + 4, 8, 0, 0, 0, 0]);
+        let modrm = MOD_DISPLACED + 8 * reg + RM_SIB;
+        match bytes.try_extend_from_slice(&[modrm, 8, 0, 0, 0, 0]) {
+            Ok(()) => {}
+            Err(_) => unreachable!(),
+        }
     } else {
-        bytes.push(192 + 8 * reg + (t % 8) as u8);
+        bytes.push(MOD_REGISTER + 8 * reg + (round % 8) as u8);
     }
 }
 
-// The spelling by a row of an entry in round t.
-fn bytes_made(entry: &Entry, w: bool, l: bool, found: &FoundRow, t: usize) -> Generated
+// The spelling by a row of an entry in a round.
+fn bytes_made(entry: &Entry, w: bool, l: bool, found: &FoundRow, round: usize) -> Generated
     requires below { found.now.reg < 8 }
     requires row { IsLayout (row_for entry.now w l found.now.memory found.now.reg) found.now.layout }
-    ensures { result.items ≡ bytes_made (row_for entry.now w l found.now.memory found.now.reg) found.now.memory t }
+    ensures { result.items
+        ≡ bytes_made (row_for entry.now w l found.now.memory found.now.reg) found.now.memory round }
 {
     let prefix = Prefix {
         map: entry.map,
         pp: entry.pp,
         w,
         l,
-        r: bit_of(t, 8),
+        r: bit_of(round, 8),
         x: false,
-        b: bit_of(t, 4),
-        vvvv: v_made(found.layout.vvvv, t),
+        b: bit_of(round, 4),
+        vvvv: vvvv_in_round(found.layout.vvvv, round),
     };
     let mut bytes = Generated::new();
-    // There is room for all bytes.
-    let _ = bytes.try_extend_from_slice(&three_byte_prefix(&prefix));
+    match bytes.try_extend_from_slice(&three_byte_prefix(&prefix)) {
+        Ok(()) => {}
+        Err(_) => unreachable!(),
+    }
     bytes.push(entry.byte);
     if found.layout.has_modrm {
-        let reg = found.layout.group.unwrap_or((t % 8) as u8);
-        push_operand(&mut bytes, found.memory, reg, t);
+        let reg = found.layout.group.unwrap_or((round % 8) as u8);
+        push_operand(&mut bytes, found.memory, reg, round);
     }
     if found.layout.has_imm {
-        bytes.push(16 * (t % 16) as u8 + 5);
+        bytes.push(16 * (round % 16) as u8 + 5);
     }
     bytes
 }
 
-// The spelling by an entry in round t, and no bytes where it had no row.
-fn spelling_of(entry: &Entry, t: usize) -> Generated
-    ensures { result.items ≡ spelling_of (Some entry.now) t }
+// The spelling by an entry in a round, and no bytes where it had no row.
+fn spelling_of(entry: &Entry, round: usize) -> Generated
+    ensures { result.items ≡ spelling_of (Some entry.now) round }
 {
-    let w = w_made(entry.w, t);
-    let l = l_made(entry.l, entry.form, t);
-    match row_made(entry, w, l, bit_of(t, 1)) {
-        Some(found) => bytes_made(entry, w, l, &found, t),
+    let w = w_in_round(entry.w, round);
+    let l = l_in_round(entry.l, entry.form, round);
+    match row_made(entry, w, l, bit_of(round, 1)) {
+        Some(found) => bytes_made(entry, w, l, &found, round),
         None => Generated::new(),
     }
 }

@@ -7,12 +7,12 @@ ghost use Rattle.vex_tool.specs.Report.{report, MayLackMemory};
 ghost use Rattle.vex_tool.specs.Run.{Ran};
 
 use crate::command::Command;
-use crate::emulate_lines::MEMORY;
+use crate::emulate_lines::MEMORY_BYTES;
 use crate::ends::{Failed, PIECE, Sink, Source};
-use crate::halt::Halt;
 use crate::line_buffer::{LineBuffer, feed, finish};
 use crate::report::LineRoom;
 use crate::status::Status;
+use crate::stop::Stop;
 use std::alloc::Global;
 
 /// How many bytes of input a run answers, at most. It takes one more where there is one, which tells that the limit
@@ -30,15 +30,15 @@ fn wanted(room: usize) -> usize
 
 // Why a run stops in the midst of a piece. Where there was no memory for a line, the answers of those before it are
 // handed on first.
-fn stopped<K: Sink>(halt: Halt, sink: &mut K) -> Halt
+fn stopped<K: Sink>(stop: Stop, sink: &mut K) -> Stop
     ensures keeps { Keeps (K.text sink.old) (K.text sink.new) }
-    ensures cause { IsStopped halt result (K.faults sink.old) (K.faults sink.new) }
+    ensures cause { IsStopped stop result (K.faults sink.old) (K.faults sink.new) }
 {
-    match halt {
-        Halt::WriteFault => halt,
-        Halt::NoMemory => match sink.flush() {
-            Ok(()) => halt,
-            Err(failed) => Halt::from(failed),
+    match stop {
+        Stop::WriteFault => stop,
+        Stop::NoMemory => match sink.flush() {
+            Ok(()) => stop,
+            Err(failed) => Stop::from(failed),
         },
     }
 }
@@ -70,7 +70,7 @@ pub fn answer_input<S: Source, K: Sink>(
         }) }
 {
     let mut line = LineBuffer::new();
-    let mut memory = [0; MEMORY];
+    let mut memory = [0; MEMORY_BYTES];
     let mut lent = LineRoom::new(&mut memory);
     let mut buffer = [0u8; PIECE];
     let mut room = INPUT_LIMIT;
@@ -84,13 +84,13 @@ pub fn answer_input<S: Source, K: Sink>(
             Ok(0) => {
                 return match finish(alloc, command, &line, &mut lent, sink) {
                     Ok(()) => Status::Done,
-                    Err(halt) => halt.status(),
+                    Err(stop) => stop.status(),
                 };
             }
             Ok(_) if room == 0 => return Status::TooLong,
             Ok(n) => {
-                if let Err(halt) = feed(alloc, command, &mut line, &piece[..n], &mut lent, sink) {
-                    return stopped(halt, sink).status();
+                if let Err(stop) = feed(alloc, command, &mut line, &piece[..n], &mut lent, sink) {
+                    return stopped(stop, sink).status();
                 }
                 room -= n;
             }

@@ -8,10 +8,13 @@ ghost use Rattle.vex_tool.specs.LeastLines.{profile_word, profiles_line};
 ghost use Rattle.x86_uarch.specs.Profiles.{profile_of};
 
 use crate::ends::{Failed, Sink};
-use crate::line_text::LineText;
+use crate::line_text::{LineText, push_stopped};
 use vex_asm::{MAX_TEXT, append_name, append_number};
 use vex_check::{First, Needs, RunCause, RunFault, accepts, check};
 use x86_uarch::{names, profile};
+
+/// What the line of profiles begins with.
+const HEAD: &str = "profiles";
 
 /// The name of a bit, of the five that instructions in VEX form need.
 fn bit_name(bit: u8) -> &'static str
@@ -23,6 +26,7 @@ fn bit_name(bit: u8) -> &'static str
         7 => "avx",
         25 => "bmi1",
         26 => "bmi2",
+        // Bit 32: no run needs any other.
         _ => "f16c",
     }
 }
@@ -57,10 +61,7 @@ fn fault_text(text: &mut LineText, fault: &RunFault)
     ensures { text.new.bytes ≡ fault_line fault.now }
 {
     text.clear();
-    text.push_str("stopped ");
-    append_number(text, fault.place);
-    text.push_str(" ");
-    text.push_str(cause_name(fault.cause));
+    push_stopped(text, fault.place, cause_name(fault.cause));
     text.push_str("\n");
 }
 
@@ -86,13 +87,13 @@ fn push_accepting(text: &mut LineText, name: &str, needs: &Needs)
     }
 }
 
-/// Appends a dash, where nothing stands behind the first word of the line of profiles.
+/// Appends a dash, where nothing stands behind the head of the line of profiles.
 fn push_dash(text: &mut LineText)
     requires { array_string_len text.old + 2 ≤ MAX_TEXT }
     ensures written { text.new.bytes ≡ text.old.bytes ++ (if nat_eq (length text.old.bytes) 8 then codes " -" else []) }
     ensures short { array_string_len text.new ≤ array_string_len text.old + 2 }
 {
-    if text.len() == 8 {
+    if text.len() == HEAD.len() {
         text.push_str(" -");
     }
 }
@@ -104,7 +105,7 @@ fn write_profiles<K: Sink>(needs: &Needs, text: &mut LineText, sink: &mut K) -> 
         (profiles_line needs.now.least) }
 {
     text.clear();
-    text.push_str("profiles");
+    text.push_str(HEAD);
     let list = names();
     for name in list {
         push_accepting(text, name, needs);

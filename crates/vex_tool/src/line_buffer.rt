@@ -8,8 +8,8 @@ ghost use Rattle.vex_tool.specs.LineMachine.{appended, line_after, kept_report, 
 
 use crate::command::Command;
 use crate::ends::Sink;
-use crate::halt::Halt;
 use crate::report::{LineError, LineRoom, MAX_LINE, write_error, write_report};
+use crate::stop::Stop;
 use arrayvec::ArrayVec;
 use memchr::memchr;
 use std::alloc::Global;
@@ -56,8 +56,10 @@ impl LineBuffer {
             self.is_long = true;
             return;
         }
-        // There is room.
-        let _ = self.kept.try_extend_from_slice(bytes);
+        match self.kept.try_extend_from_slice(bytes) {
+            Ok(()) => {}
+            Err(_) => unreachable!(),
+        }
     }
 
     /// Begins the next line.
@@ -94,7 +96,7 @@ fn answer<K: Sink>(
     line: &LineBuffer,
     room: &mut LineRoom,
     sink: &mut K,
-) -> Result<(), Halt>
+) -> Result<(), Stop>
     ensures { Answers (λ written. (written ≡ []) × IsSomeAnd line.now (MayLackMemory command.now)) result
         (K.text sink.old) (K.text sink.new) (K.faults sink.old) (K.faults sink.new)
         (kept_report (report command.now) line.now) }
@@ -116,7 +118,7 @@ fn end_line<K: Sink>(
     bytes: &[u8],
     room: &mut LineRoom,
     sink: &mut K,
-) -> Result<(), Halt>
+) -> Result<(), Stop>
     ensures kept { OnOk result (line.new ≡ Some []) }
     ensures written { Answers (λ written. (written ≡ [])
         × IsSomeAnd (appended line.old bytes.now) (MayLackMemory command.now)) result
@@ -142,7 +144,7 @@ pub fn feed<K: Sink>(
     piece: &[u8],
     room: &mut LineRoom,
     sink: &mut K,
-) -> Result<(), Halt>
+) -> Result<(), Stop>
     ensures kept { OnOk result (line.new ≡ line_after line.old piece.now) }
     ensures written { Answers (λ written. EndedBefore (report command.now) (MayLackMemory command.now) line.old
         piece.now written) result
@@ -159,7 +161,7 @@ pub fn feed<K: Sink>(
 }
 
 // Hands on what the sink holds back.
-fn hand_on<K: Sink>(sink: &mut K) -> Result<(), Halt>
+fn hand_on<K: Sink>(sink: &mut K) -> Result<(), Stop>
     ensures { Answers (λ _. ⊥) result (K.text sink.old) (K.text sink.new) (K.faults sink.old) (K.faults sink.new) [] }
 {
     sink.flush()?;
@@ -174,7 +176,7 @@ pub fn finish<K: Sink>(
     line: &LineBuffer,
     room: &mut LineRoom,
     sink: &mut K,
-) -> Result<(), Halt>
+) -> Result<(), Stop>
     ensures { Answers (λ written. (written ≡ []) × (line.now ≢ Some [])
         × IsSomeAnd line.now (MayLackMemory command.now)) result
         (K.text sink.old) (K.text sink.new) (K.faults sink.old) (K.faults sink.new)

@@ -4,7 +4,8 @@
 use crate::laws::{assembled_lines, result_line_assembles};
 use crate::memory_ends::{MemSink, MemSource};
 use crate::run;
-use crate::words::Words;
+use crate::status::Status;
+use crate::test_parts::words_of;
 use std::alloc::Global;
 use std::process::Abort;
 use x86_settings::InstDecoder;
@@ -186,32 +187,27 @@ static MACHINES: [(&str, &[u8], &[u8]); 17] = [
     ("default", b"c5f", b"error BadHex\n"),
 ];
 
-/// Runs a command under a profile over a line, and wants this text.
-pub fn check(rt: &impl Abort, alloc: Global, verb: &str, profile: &str, line: &[u8], text: &[u8]) {
-    let mut words = Words::new();
-    words.push(verb);
-    if profile != "" {
-        words.push(profile);
-    }
+/// Runs the command that these words ask for over a line, and wants this text.
+pub fn check(rt: &impl Abort, alloc: Global, list: &[&str], line: &[u8], text: &[u8]) {
     let mut source = MemSource::new(line, 4096, &[]);
     let mut room = [0u8; 1280];
     let mut sink = MemSink::new(&mut room, &[]);
-    let status = run(alloc, &words, &mut source, &mut sink);
-    assert_eq!(rt; status.code(), 0);
+    let status = run(alloc, &words_of(list), &mut source, &mut sink);
+    assert_eq!(rt; status, Status::Done);
     assert_eq!(rt; sink.written(), text);
 }
 
 #[test]
 fn lines_have_their_answers(rt: HostRuntime) {
     for (profile, line, text) in LINES.iter() {
-        check(&rt, rt.alloc(), "recode", profile, line, text);
+        check(&rt, rt.alloc(), &["recode", profile], line, text);
     }
 }
 
 #[test]
 fn texts_are_assembled(rt: HostRuntime) {
     for (profile, line, text) in TEXTS.iter() {
-        check(&rt, rt.alloc(), "asm", profile, line, text);
+        check(&rt, rt.alloc(), &["asm", profile], line, text);
     }
     assembled_lines();
     result_line_assembles(&InstDecoder::default(), b"\xc5\xf8\x77");
@@ -220,13 +216,13 @@ fn texts_are_assembled(rt: HostRuntime) {
 #[test]
 fn runs_need_the_bits_of_their_instructions(rt: HostRuntime) {
     for (line, text) in RUNS.iter() {
-        check(&rt, rt.alloc(), "least", "", line, text);
+        check(&rt, rt.alloc(), &["least"], line, text);
     }
 }
 
 #[test]
-fn code_changes_the_machine(rt: HostRuntime) {
+fn emulate_answers_what_code_changes(rt: HostRuntime) {
     for (profile, line, text) in MACHINES.iter() {
-        check(&rt, rt.alloc(), "emulate", profile, line, text);
+        check(&rt, rt.alloc(), &["emulate", profile], line, text);
     }
 }

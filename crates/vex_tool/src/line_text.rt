@@ -1,6 +1,6 @@
 //! The text of a line of the output, put together in a fixed buffer.
 
-ghost use Rattle.std.specs.Prelude.{◌≡◌, ◌≤◌, ◌+◌, ◌*◌, ◌++◌, codes, length, IsUtf8};
+ghost use Rattle.std.specs.Prelude.{◌≡◌, ◌≤◌, ◌+◌, ◌*◌, ◌++◌, codes, decimal, length, IsUtf8};
 ghost use Rattle.arrayvec.specs.ArrayString.{array_string_len};
 ghost use Rattle.hex.specs.Hex.{encode_lower};
 ghost use Rattle.x86_operand.specs.Note.{note_text};
@@ -86,6 +86,19 @@ pub fn item_text(text: &mut LineText, item: &SweepItem<'_>)
     push_instruction(text, &item.instruction, &item.spelling);
 }
 
+/// Appends where something stopped, and why: `stopped`, the place and the name of the cause.
+pub fn push_stopped(text: &mut LineText, place: usize, name: &str)
+    requires name { length name.now ≤ 32 }
+    requires room { array_string_len text.old + 64 ≤ MAX_TEXT }
+    ensures written { text.new.bytes ≡ text.old.bytes ++ codes "stopped " ++ decimal place ++ codes " " ++ name.now }
+    ensures short { array_string_len text.new ≤ array_string_len text.old + 64 }
+{
+    text.push_str("stopped ");
+    append_number(text, place);
+    text.push_str(" ");
+    text.push_str(name);
+}
+
 /// Makes the text the line of the end of a sweep: `end`, or `stopped`, the place and the error's name.
 pub fn end_text(text: &mut LineText, end: &SweepEnd)
     ensures { text.new.bytes ≡ end_line end.now }
@@ -93,12 +106,7 @@ pub fn end_text(text: &mut LineText, end: &SweepEnd)
     text.clear();
     match end {
         SweepEnd::End => text.push_str("end"),
-        SweepEnd::Stopped { place, error } => {
-            text.push_str("stopped ");
-            append_number(text, *place);
-            text.push_str(" ");
-            text.push_str(error.name());
-        }
+        SweepEnd::Stopped { place, error } => push_stopped(text, *place, error.name()),
     }
     text.push_str("\n");
 }

@@ -1,4 +1,4 @@
-//! The program: canonical bytes of VEX instructions, line by line.
+//! The program: decodes, encodes, lists, checks and runs code of VEX instructions, line by line, as its words ask.
 //!
 //! `run` is the whole program over any source and any sink; `main` hands it the real ones.
 //!
@@ -45,6 +45,7 @@ use words::{MAX_WORD_LEN, Words};
 
 mod asm_line;
 mod command;
+mod counting_bytes;
 #[cfg(test)]
 mod edge_tests;
 mod emulate_lines;
@@ -53,7 +54,6 @@ mod ends;
 mod example;
 mod gatherer;
 mod generator;
-mod halt;
 mod input;
 mod laws;
 mod least_lines;
@@ -64,11 +64,14 @@ mod line_text;
 mod make_line;
 #[cfg(test)]
 mod make_tests;
+mod stop;
 // For callers of `run` over memory; here the tests alone.
 mod memory_ends;
 mod note_lines;
 mod report;
 mod result_line;
+#[cfg(test)]
+mod run_tests;
 mod spelling_lines;
 #[cfg(test)]
 mod spelling_tests;
@@ -76,19 +79,24 @@ mod status;
 mod std_ends;
 mod sweep_lines;
 #[cfg(test)]
-mod tests;
+mod test_parts;
 mod words;
 
 /// Runs the command that the words ask for, over all that the source has left.
 ///
-/// For each line of the input `recode P` writes one line, `sweep P` one for each instruction and one for the end, and
-/// `notes P` one for each note and then that of `recode P`, and `asm P` one; `emulate P` one for each vector and each
-/// block of memory that the line's code changes and one for the end; `spellings P` one for each spelling of the meaning
-/// and one for the end; `least` writes one for each bit of settings that the line's instructions need and one for the
-/// profiles. `make N` reads nothing, and writes one line. The status is `Usage` where the words are no command or one
-/// was refused. Else it is that of the first of these events: a read failed, a write failed, there was no memory for
-/// the sweep of a line, the source gave a byte after 2^26 bytes, or all is written and the input has ended. Only `sweep
-/// P` takes memory.
+/// What is written for each line of the input, under the profile `P`:
+/// - `recode P`: one line, of the instruction that begins the line's code and its canonical bytes.
+/// - `sweep P`: a line for each instruction of the line's code, and one for the end. It alone takes memory.
+/// - `notes P`: a line for each note on the bytes that a decode takes, and then that of `recode P`.
+/// - `asm P`: one line, of the canonical bytes of the meaning that the line writes.
+/// - `emulate P`: a line for each vector and each block of memory that the line's code changes, and one for the end.
+/// - `spellings P`: a line for each spelling of the meaning, and one for the end.
+/// - `least`: a line for each bit of settings that the line's instructions need, and one for the profiles.
+/// - `make N`: it reads nothing, and writes one line for the whole run.
+///
+/// The status is `Usage` where the words are no command or one was refused. Else it is that of the first of these
+/// events: a read failed, a write failed, there was no memory for the sweep of a line, the source gave a byte after
+/// 2^26 bytes, or all is written and the input has ended.
 pub fn run<S: Source, K: Sink>(alloc: Global, words: &Words, source: &mut S, sink: &mut K) -> Status
     // `Usage` comes exactly where the words are no command or one was refused, and changes nothing.
     ensures usage { (result ≡ Status.Usage) ↔ (IsNone (command words.now.0) ⊎ IsTrue words.now.1) }

@@ -95,18 +95,17 @@ fn push_count(text: &mut LineText, word: &str, number: u64)
     append_number(text, number as usize);
 }
 
-// The line of these totals over so many spellings.
-fn line_of(count: u32, totals: &Totals) -> LineText
-    ensures { result.bytes ≡ line_of count totals.now }
+// Makes the text the line of these totals over so many spellings.
+fn made_text(text: &mut LineText, count: u32, totals: &Totals)
+    ensures { text.new.bytes ≡ line_of count totals.now }
 {
-    let mut text = LineText::new();
-    push_count(&mut text, "made ", u64::from(count));
-    push_count(&mut text, " ok ", totals.recoded);
-    push_count(&mut text, " read ", totals.read);
-    push_count(&mut text, " short ", totals.short);
-    push_count(&mut text, " sum ", totals.sum);
+    text.clear();
+    push_count(text, "made ", u64::from(count));
+    push_count(text, " ok ", totals.recoded);
+    push_count(text, " read ", totals.read);
+    push_count(text, " short ", totals.short);
+    push_count(text, " sum ", totals.sum);
     text.push_str("\n");
-    text
 }
 
 /// Generates so many spellings, recodes each under all settings, and writes the line that sums this up, in one write,
@@ -114,6 +113,8 @@ fn line_of(count: u32, totals: &Totals) -> LineText
 pub fn write_made<K: Sink>(count: u32, sink: &mut K) -> Result<(), Failed>
     ensures { Writes result (K.text sink.old) (K.text sink.new) (K.faults sink.old) (K.faults sink.new) (made count) }
 {
-    sink.write_all(line_of(count, &add_up(count)).as_str().as_bytes())?;
+    let mut text = LineText::new();
+    made_text(&mut text, count, &add_up(count));
+    sink.write_all(text.as_str().as_bytes())?;
     sink.flush()
 }

@@ -1,13 +1,11 @@
 //! The spellings that `make` generates, and what it writes. The expected bytes and sums were worked out from the
 //! definitions by a program of its own, in another language.
 
-ghost use Rattle.std.specs.Prelude.{None};
-
-use crate::ends::{Failed, Source};
 use crate::generator::generated;
 use crate::memory_ends::MemSink;
 use crate::run;
-use crate::words::Words;
+use crate::status::Status;
+use crate::test_parts::{Asked, words_of};
 
 /// Generated spellings by their numbers: each field of the prefix, the kinds and the groups of an entry, W and L that a
 /// rule or a form fixes, an entry without ModRM, gathers, and the immediate byte.
@@ -42,39 +40,12 @@ fn entries_take_turns_with_other_fields_in_each_round(rt: HostRuntime) {
     }
 }
 
-// A source that fails at each call, and counts how often it is asked.
-#[derive(Drop)]
-struct Asked {
-    calls: u64,
-}
-
-impl Source for Asked {
-    ghost left = { λ _. None };
-
-    ghost given = { λ _. 0 };
-
-    ghost faults = { λ s. s.calls };
-
-    fn read(&mut self, _into: &mut [u8]) -> Result<usize, Failed> {
-        self.calls = self.calls.saturating_add(1);
-        Err(Failed)
-    }
-}
-
-fn make(count: &str) -> Words {
-    let mut words = Words::new();
-    words.push("make");
-    words.push(count);
-    words
-}
-
 #[rattlefmt::skip]
-static SUMS: [(&str, &[u8]); 6] = [
+static SUMS: [(&str, &[u8]); 5] = [
     ("1", b"made 1 ok 1 read 5 short 4 sum 653\n"),
     ("2", b"made 2 ok 2 read 10 short 8 sum 1306\n"),
     ("3", b"made 3 ok 3 read 15 short 12 sum 1961\n"),
     ("434", b"made 434 ok 434 read 2433 short 2065 sum 347565\n"),
-    ("2000", b"made 2000 ok 2000 read 14994 short 10355 sum 1481857\n"),
     ("2000", b"made 2000 ok 2000 read 14994 short 10355 sum 1481857\n"),
 ];
 
@@ -84,8 +55,13 @@ fn make_sums_up_its_spellings_and_reads_nothing(rt: HostRuntime) {
         let mut source = Asked { calls: 0 };
         let mut room = [0u8; 100];
         let mut sink = MemSink::new(&mut room, &[]);
-        let status = run(rt.alloc(), &make(count), &mut source, &mut sink);
-        assert_eq!(rt; status.code(), 0);
+        let status = run(
+            rt.alloc(),
+            &words_of(&["make", count]),
+            &mut source,
+            &mut sink,
+        );
+        assert_eq!(rt; status, Status::Done);
         assert_eq!(rt; sink.written(), *text);
         assert_eq!(rt; source.calls, 0);
     }
@@ -98,15 +74,20 @@ fn make_ends_with_the_fault_of_its_write(rt: HostRuntime) {
         let mut source = Asked { calls: 0 };
         let mut room = [0u8; 10];
         let mut sink = MemSink::new(&mut room, failing);
-        let status = run(rt.alloc(), &make("3"), &mut source, &mut sink);
-        assert_eq!(rt; status.code(), 3);
+        let status = run(
+            rt.alloc(),
+            &words_of(&["make", "3"]),
+            &mut source,
+            &mut sink,
+        );
+        assert_eq!(rt; status, Status::WriteFault);
         assert_eq!(rt; sink.written(), text);
         assert_eq!(rt; source.calls, 0);
     }
 }
 
 #[test]
-fn numbers_that_make_refuses(rt: HostRuntime) {
+fn numbers_that_make_refuses_are_usage(rt: HostRuntime) {
     let refused = [
         "",
         "0",
@@ -125,8 +106,13 @@ fn numbers_that_make_refuses(rt: HostRuntime) {
     for count in refused {
         let mut source = Asked { calls: 0 };
         let mut sink = MemSink::new(&mut [], &[]);
-        let status = run(rt.alloc(), &make(count), &mut source, &mut sink);
-        assert_eq!(rt; status.code(), 2, "at {count}");
+        let status = run(
+            rt.alloc(),
+            &words_of(&["make", count]),
+            &mut source,
+            &mut sink,
+        );
+        assert_eq!(rt; status, Status::Usage, "at {count}");
         assert_eq!(rt; source.calls, 0);
     }
 }

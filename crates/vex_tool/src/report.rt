@@ -5,22 +5,23 @@ ghost use Rattle.std.specs.Prelude.{MatchResult};
 ghost use Rattle.hex.specs.Hex.{decode_of};
 ghost use Rattle.vex_tool.specs.Ends.{Answers, Writes};
 ghost use Rattle.vex_tool.specs.ErrorLine.{error_line};
-ghost use Rattle.vex_tool.specs.Report.{report, code, code_report, digits, is_blank};
+ghost use Rattle.vex_tool.specs.Report.{report, code, code_report, digits};
 ghost use Rattle.vex_tool.specs.Report.{line_error_name, takes_memory, MayLackMemory};
 
 use crate::asm_line::write_asm_line;
 use crate::command::Command;
-use crate::emulate_lines::{LineMachine, MEMORY, write_emulated};
+use crate::emulate_lines::{LineMachine, MEMORY_BYTES, write_emulated};
 use crate::ends::{Failed, Sink};
-use crate::halt::Halt;
 use crate::least_lines::write_least;
 use crate::line_text::{LineText, error_text};
 use crate::note_lines::write_notes;
 use crate::result_line::write_result_line;
 use crate::spelling_lines::write_spellings;
+use crate::stop::Stop;
 use crate::sweep_lines::write_sweep;
 use arrayvec::ArrayVec;
 use std::alloc::Global;
+use vex_asm::is_blank;
 use x86_operand::FieldDescription;
 use x86_reader::ListSink;
 
@@ -51,12 +52,6 @@ impl LineError {
     }
 }
 
-fn is_blank(byte: u8) -> bool
-    ensures { result ≡ is_blank byte }
-{
-    matches!(byte, b' ' | b'\t' | b'\r')
-}
-
 // Keeps the line without its spaces, tabs and bytes 13.
 fn keep_digits(line: &[u8], kept: &mut ArrayVec<u8, MAX_LINE>)
     requires { length line.now ≤ MAX_LINE }
@@ -85,8 +80,8 @@ fn decode_digits(text: &[u8], bytes: &mut [u8]) -> Option<usize>
     }
 }
 
-/// What the commands put together for a line: a list of notes, the text of a line of the output, and a machine that runs
-/// the line's bytes.
+/// What the commands put together for a line: a list of notes, the text of a line of the output, and a machine that
+/// runs the line's bytes.
 #[derive(Drop)]
 struct Scratch<'a> {
     notes: ListSink<FieldDescription>,
@@ -105,7 +100,7 @@ pub struct LineRoom<'a> {
 
 impl<'a> LineRoom<'a> {
     /// Room that holds nothing yet. The memory is the machine's.
-    pub fn new(memory: &'a mut [u8; MEMORY]) -> LineRoom<'a> {
+    pub fn new(memory: &'a mut [u8; MEMORY_BYTES]) -> LineRoom<'a> {
         LineRoom {
             digits: ArrayVec::new(),
             bytes: [0; MAX_CODE],
@@ -156,7 +151,7 @@ fn write_code_report<K: Sink>(
     bytes: &[u8],
     scratch: &mut Scratch<'_>,
     sink: &mut K,
-) -> Result<(), Halt>
+) -> Result<(), Stop>
     ensures { Answers (λ written. (written ≡ []) × IsTrue (takes_memory command.now)) result
         (K.text sink.old) (K.text sink.new) (K.faults sink.old) (K.faults sink.new)
         (code_report command.now (Ok bytes.now)) }
@@ -202,7 +197,7 @@ pub fn write_report<K: Sink>(
     line: &[u8],
     room: &mut LineRoom,
     sink: &mut K,
-) -> Result<(), Halt>
+) -> Result<(), Stop>
     requires { length line.now ≤ MAX_LINE }
     ensures { Answers (λ written. (written ≡ []) × MayLackMemory command.now line.now) result
         (K.text sink.old) (K.text sink.new) (K.faults sink.old) (K.faults sink.new) (report command.now line.now) }

@@ -3,7 +3,8 @@
 use crate::line_tests::check;
 use crate::memory_ends::{MemSink, MemSource};
 use crate::run;
-use crate::words::Words;
+use crate::status::Status;
+use crate::test_parts::words_of;
 
 /// A profile, a line of code, and what `spellings` answers: all bits that play no part, the widths of a displacement,
 /// the low half of the byte that names a register, bytes after the instruction, and what is refused.
@@ -87,19 +88,17 @@ static SPELLINGS: [(&str, &[u8], &[u8]); 8] = [
 #[test]
 fn spellings_come_in_order(rt: HostRuntime) {
     for (profile, line, text) in SPELLINGS.iter() {
-        check(&rt, rt.alloc(), "spellings", profile, line, text);
+        check(&rt, rt.alloc(), &["spellings", profile], line, text);
     }
 }
 
 #[test]
 fn a_failed_write_ends_the_spellings(rt: HostRuntime) {
-    let mut words = Words::new();
-    words.push("spellings");
-    words.push("default");
+    let words = words_of(&["spellings", "default"]);
     let mut source = MemSource::new(b"C5 F0 58 04 88", 4096, &[]);
     let mut room = [0u8; 64];
     let mut sink = MemSink::new(&mut room, &[2]);
     let status = run(rt.alloc(), &words, &mut source, &mut sink);
-    assert_eq!(rt; status.code(), 3);
+    assert_eq!(rt; status, Status::WriteFault);
     assert_eq!(rt; sink.written(), "c4e170580488\nc4e17058448800\n".as_bytes());
 }

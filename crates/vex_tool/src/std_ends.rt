@@ -8,10 +8,12 @@ use crate::ends::{Failed, PIECE, Sink, Source};
 use std::io::{Read, Write};
 use std::marker::Model;
 
-/// A source over a reader. Each call makes one read, and fails where that read does.
+/// A source over a reader. Each call makes one read, and fails where that read does. It reads into a piece of its own,
+/// so that a read that fails changes nothing of what it was to fill.
 #[derive(Drop)]
 pub struct StdSource<R: Read> {
     input: R,
+    piece: [u8; PIECE],
     given: u64,
     faults: u64,
 }
@@ -31,6 +33,7 @@ impl<R: Read> StdSource<R> {
     {
         StdSource {
             input,
+            piece: [0; PIECE],
             given: 0,
             faults: 0,
         }
@@ -61,8 +64,8 @@ impl<R: Read> Source for StdSource<R> {
         ensures bytes { ReadConsumes (R.remaining self.old.input) (R.remaining self.new.input) result into.new }
         ensures fault { OnErr result (self.new.faults ≡ counted self.old.faults 1) }
     {
-        let mut piece = [0u8; PIECE];
         let room = PIECE.min(into.len());
+        let piece = &mut self.piece[..];
         match self.input.read(&mut piece[..room]) {
             Ok(n) => {
                 into[..n].copy_from_slice(&piece[..n]);

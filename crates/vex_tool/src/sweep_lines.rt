@@ -6,8 +6,8 @@ ghost use Rattle.vex_tool.specs.Ends.{Answers, Writes};
 ghost use Rattle.vex_tool.specs.SweepLines.{item_line, sweep_lines};
 
 use crate::ends::{Failed, Sink};
-use crate::halt::Halt;
 use crate::line_text::{LineText, end_text, item_text};
+use crate::stop::Stop;
 use std::alloc::Global;
 use vex_encode::{Items, NoMemory, sweep};
 use x86_settings::InstDecoder;
@@ -33,14 +33,14 @@ pub fn write_sweep<K: Sink>(
     bytes: &[u8],
     text: &mut LineText,
     sink: &mut K,
-) -> Result<(), Halt>
+) -> Result<(), Stop>
     ensures { Answers (λ written. written ≡ []) result (K.text sink.old) (K.text sink.new) (K.faults sink.old)
         (K.faults sink.new)
         (sweep_lines (swept settings.now bytes.now)) }
 {
     let swept = match sweep(alloc, settings, bytes) {
         Ok(swept) => swept,
-        Err(NoMemory) => return Err(Halt::NoMemory),
+        Err(NoMemory) => return Err(Stop::NoMemory),
     };
     write_items(&swept.items, text, sink)?;
     end_text(text, &swept.end);

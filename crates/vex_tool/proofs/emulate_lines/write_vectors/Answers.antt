@@ -16,8 +16,8 @@ returns-in_err-write_changed g c =
     let vs = c.args.machine.now.vectors in
     let i = c.loop-i.i in
     let line =
-    vector-is vs i c.from-number.result c.vector.result.now c.block_from-start.result c.from-number.ensures
-    c.vector.ensures c.block_from-start.ensures in
+    vector-is vs i c.from-number.result c.vector.result.now c.start_vector.result.now c.from-number.ensures
+    c.vector.ensures c.start_vector.ensures in
     number-fault (vector_line vs) 16 i _ _ c.loop-i.invariant _ failed.0 (record { text = _; faults = _ }) failed.1
     c.loop-i-test.true (rw line at c.in_err-write_changed.ensures.front) c.in_err-write_changed.ensures.cause
 
@@ -26,8 +26,8 @@ loop-i-preserved g c =
     let vs = c.args.machine.now.vectors in
     let i = c.loop-i.i in
     let line =
-    vector-is vs i c.from-number.result c.vector.result.now c.block_from-start.result c.from-number.ensures
-    c.vector.ensures c.block_from-start.ensures in
+    vector-is vs i c.from-number.result c.vector.result.now c.start_vector.result.now c.from-number.ensures
+    c.vector.ensures c.start_vector.ensures in
     let more = c.in_ok-write_changed.ensures in
     number-written (vector_line vs) 16 i _ _ c.loop-i.invariant _ c.loop-i-test.true (rw line at more.appends)
     more.quiet

@@ -4,7 +4,7 @@ use Rattle.vex_tool.specs.Report.{MayLackMemory}
 use Rattle.vex_tool.proofs.ReportLemmas.{SameForLong-report}
 use Rattle.vex_tool.proofs.FeedLemmas.{Fed-stopped-handed_on}
 use Rattle.vex_tool.proofs.RunLemmas.{Going-first, Going-handed_on, Going-step, Gave-read, Gave-none, Ran-read_fault}
-use Rattle.vex_tool.proofs.RunLemmas.{Ran-done, Ran-finish_halted, Ran-too_long, Ran-feed_halted, Ran-flush_fault}
+use Rattle.vex_tool.proofs.RunLemmas.{Ran-done, Ran-finish_stopped, Ran-too_long, Ran-feed_stopped, Ran-flush_fault}
 use Rattle.vex_tool.proofs.input.answer_input.Goals as goal
 
 pub loop-buffer-init : goal.loop-buffer-init
@@ -40,7 +40,7 @@ returns-in-Err-finish g c =
     let read = c.in-Ok-eq0.ensures in
     let none = c.in-Ok-eq0.field-0-test in
     rw c.status.ensures
-    (Ran-finish_halted _ _ _ _ _ _ going (SameForLong-report _) _ _ _ _
+    (Ran-finish_stopped _ _ _ _ _ _ going (SameForLong-report _) _ _ _ _
     (Gave-none _ _ _ _ _ c.read.new.into none read.takes read.counts read.quiet)
     c.in-Err-finish.ensures)
 
@@ -69,7 +69,7 @@ returns-in-Err-feed g c =
     let fits : n ≤ length c.read.new.into = omega arith in
     let within : n ≤ c.loop-buffer.room = omega (arith, c.wanted.ensures.to_limit (omega arith)) in
     rw c.status-in-Err-feed.ensures
-    (Ran-feed_halted _ _ _ _ _ _ going (SameForLong-report _) _ _ _ _ _
+    (Ran-feed_stopped _ _ _ _ _ _ going (SameForLong-report _) _ _ _ _ _
     (Gave-read _ _ _ _ _ c.read.new.into fits read.takes read.counts read.quiet)
     (rw (length-take-le n c.read.new.into fits) within)
     (Fed-stopped-handed_on _ _ _ _ _ _ _ _ _ _ _ _ c.in-Err-feed.ensures.written c.stopped.ensures.keeps

@@ -10,7 +10,7 @@ use Rattle.vex_tool.proofs.make_line.write_made.Goals.{After-write_all}
 -- the bytes that are written
 line-is : (g : given.Over) (c : After-write_all g) → c.as_bytes.result.now ≡ made c.args.count
 line-is g c =
-    c.as_bytes.ensures.value ∙ c.as_str.ensures.value ∙ c.line_of.ensures
+    c.as_bytes.ensures.value ∙ c.as_str.ensures.value ∙ c.made_text.ensures
     ∙ line-made c.add_up.result c.args.count c.add_up.ensures
 
 pub returns : goal.returns

@@ -1,4 +1,4 @@
-//! What no clause says: that the definitions mean what they should, and that each call works once.
+//! Runs over memory and over a reader and a writer of std, what ends them, and their words and statuses.
 
 ghost use Rattle.std.specs.Prelude.{◌+◌, ◌≤◌, None};
 
@@ -7,6 +7,7 @@ use crate::memory_ends::{MemSink, MemSource};
 use crate::run;
 use crate::status::Status;
 use crate::std_ends::{StdSink, StdSource};
+use crate::test_parts::words_of;
 use crate::words::Words;
 use std::alloc::{AllocError, Global};
 use std::io::{self, ErrorKind, Read};
@@ -42,14 +43,6 @@ fn answers(alloc: Global, count: usize) -> Result<Vec<u8>, AllocError> {
     Ok(text)
 }
 
-fn words_of(list: &[&str]) -> Words {
-    let mut words = Words::new();
-    for word in list {
-        words.push(word);
-    }
-    words
-}
-
 // Runs `recode default` into this room, and wants this status and text.
 fn check<S: Source>(
     rt: &impl Abort,
@@ -61,7 +54,7 @@ fn check<S: Source>(
 ) {
     let words = words_of(&["recode", "default"]);
     let status = run(alloc, &words, source, sink);
-    assert_eq!(rt; status.code(), want.0.code(), "at {at}");
+    assert_eq!(rt; status, want.0, "at {at}");
     assert_eq!(rt; sink.written(), want.1, "at {at}");
 }
 
@@ -138,7 +131,7 @@ fn fail_writes(rt: &impl Abort, alloc: Global, step: usize) -> Result<(), AllocE
 }
 
 #[test]
-fn a_failed_write_leaves_a_front(rt: HostRuntime) -> Result<(), Fail> {
+fn a_failed_write_leaves_a_front_of_the_answers(rt: HostRuntime) -> Result<(), Fail> {
     fail_writes(&rt, rt.alloc(), 1000)?;
     fail_writes(&rt, rt.alloc(), 4096)?;
     let input = five_lines(rt.alloc())?;
@@ -208,7 +201,7 @@ fn the_limit_is_two_to_the_26(rt: HostRuntime) {
 }
 
 #[test]
-fn words_that_are_no_command(rt: HostRuntime) {
+fn words_that_are_no_command_are_usage(rt: HostRuntime) {
     let long = "xxxxxxxxxxxxxxxxxxxxxxxxxxxxxxxxxxxxxxxxxxxxxxxxxxxxxxxxxxxxxxxxx";
     let lists: [&[&str]; 15] = [
         &[],
@@ -232,7 +225,7 @@ fn words_that_are_no_command(rt: HostRuntime) {
         let mut source = MemSource::new(b"c5", 1, &[]);
         let mut sink = MemSink::new(&mut [], &[]);
         let status = run(rt.alloc(), &words, &mut source, &mut sink);
-        assert_eq!(rt; status.code(), 2, "at {list:?}");
+        assert_eq!(rt; status, Status::Usage, "at {list:?}");
     }
 }
 
@@ -263,6 +256,23 @@ fn statuses_have_numbers_and_names(rt: HostRuntime) {
     for (status, code, name) in all {
         assert_eq!(rt; status.code(), code);
         assert_eq!(rt; status.name(), name);
+    }
+}
+
+#[test]
+fn no_status_equals_another(rt: HostRuntime) {
+    let all = [
+        Status::Done,
+        Status::ReadFault,
+        Status::Usage,
+        Status::WriteFault,
+        Status::NoMemory,
+        Status::TooLong,
+    ];
+    for a in all {
+        for b in all {
+            assert_eq!(rt; a == b, a.code() == b.code(), "{a:?} and {b:?}");
+        }
     }
 }
 
@@ -311,14 +321,14 @@ fn a_writer_of_std_gets_the_text_up_to_its_fault(rt: HostRuntime) -> Result<(), 
     let mut source = MemSource::new(input.as_slice(), 4096, &[]);
     let mut out = Vec::new(rt.alloc());
     let status = run(rt.alloc(), &words, &mut source, &mut StdSink::new(&mut out));
-    assert_eq!(rt; status.code(), 0);
+    assert_eq!(rt; status, Status::Done);
     assert_eq!(rt; out.as_slice(), text.as_slice());
 
     let mut source = MemSource::new(input.as_slice(), 4096, &[]);
     let mut room = [0u8; 40];
     let mut sink = StdSink::new(room.as_mut_slice());
     let status = run(rt.alloc(), &words, &mut source, &mut sink);
-    assert_eq!(rt; status.code(), 3);
+    assert_eq!(rt; status, Status::WriteFault);
     assert_eq!(rt;
         room.as_slice(),
         b"3 VZEROUPPER 0 c5f877\nerror BadHex\nerror".as_slice()
@@ -340,7 +350,7 @@ fn a_sweep_writes_each_instruction_and_how_it_ends(rt: HostRuntime) {
     let mut sink = MemSink::new(&mut room, &[]);
     let words = words_of(&["sweep", "default"]);
     let status = run(rt.alloc(), &words, &mut source, &mut sink);
-    assert_eq!(rt; status.code(), 0);
+    assert_eq!(rt; status, Status::Done);
     assert_eq!(rt; sink.written(), text);
 }
 
@@ -366,7 +376,7 @@ fn notes_say_what_the_bytes_taken_hold(rt: HostRuntime) {
         let mut room = [0u8; 400];
         let mut sink = MemSink::new(&mut room, &[]);
         let status = run(rt.alloc(), &words, &mut source, &mut sink);
-        assert_eq!(rt; status.code(), 0);
+        assert_eq!(rt; status, Status::Done);
         assert_eq!(rt; sink.written(), text);
     }
 }
