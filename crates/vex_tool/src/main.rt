@@ -64,7 +64,6 @@ mod line_text;
 mod make_line;
 #[cfg(test)]
 mod make_tests;
-mod stop;
 // For callers of `run` over memory; here the tests alone.
 mod memory_ends;
 mod note_lines;
@@ -77,6 +76,7 @@ mod spelling_lines;
 mod spelling_tests;
 mod status;
 mod std_ends;
+mod stop;
 mod sweep_lines;
 #[cfg(test)]
 mod test_parts;
