@@ -1,18 +1,18 @@
 -- Bytes that count up, the machine at the start of a line, and the lines of what a run changes.
-use Rattle.std.proofs.Common.{◌≡◌, ℕ, ◌+◌, ◌-◌, ◌*◌, ◌%◌, ◌<◌, ◌≤◌, Bool, true, false, List, [], ◌++◌, length}
-use Rattle.std.proofs.Common.{get_or, take, drop, map, zero, suc, ap, sym, ◌∙◌, refl, arith, slice_set}
+use Rattle.std.proofs.Common.{◌≡◌, ℕ, ◌+◌, ◌-◌, ◌*◌, ◌%◌, ◌<◌, ◌≤◌, Bool, true, false, List, [], ◌∷◌, ◌++◌, length}
+use Rattle.std.proofs.Common.{get_or, take, drop, map, zero, suc, ap, sym, ◌∙◌, refl, arith, slice_set, append_assoc}
 use Rattle.std.specs.Prelude.{bytes_eq, codes, decimal, flat_map, slice_index_or, if◌then◌else◌, Result, Ok, Err}
 use Rattle.std.specs.Io.KnownBytes.{Appends}
 use Rattle.std.specs.List.{range_with_len}
 use Rattle.std.specs.Simd.Lanes.{chunk}
-use Rattle.std.proofs.Math.Seq.{take-length}
+use Rattle.std.proofs.Math.Seq.{set-append_seam, take-length, drop-length}
+use Rattle.std.proofs.lemmas.List.{append-nil, drop_more}
 use Rattle.std.proofs.lemmas.List.FromFn.{get_or-range_with_len, length-range_with_len, length-map-range_with_len}
-use Rattle.std.proofs.lemmas.List.FromFn.{take-map-range_with_len}
+use Rattle.std.proofs.lemmas.List.FromFn.{map-range_with_len_more, take-map-range_with_len}
 use Rattle.hex.specs.Hex.{encode_lower}
 use Rattle.vex_emul.specs.Machine.{State, start_of}
 use Rattle.vex_emul.specs.Run.{ran}
 use Rattle.vex_emul.specs.declared.run.Halt.{Halt}
-use Rattle.vex_tool.specs.declared.counting_bytes.TheConstants.{COUNTING}
 use Rattle.vex_tool.specs.Ends.{AppendsFront, RoseOrIsLast, Writes}
 use Rattle.vex_tool.proofs.EndsLemmas.{Writes-all, Writes-fault}
 use Rattle.vex_tool.proofs.FeedLemmas.{Told}
@@ -26,6 +26,37 @@ use Rattle.vex_tool.specs.EmulateLines.{vector_lines}
 pub length-counting : (first n : ℕ) → length (counting first n) ≡ n
 unfolding counting
 length-counting first n = length-map-range_with_len (λ k. k % 256) first n
+
+pub counting-none : (first : ℕ) → counting first 0 ≡ []
+unfolding counting
+counting-none first = refl
+
+counting-more : (first n : ℕ) → counting first (n + 1) ≡ counting first n ++ (first + n) % 256 ∷ []
+unfolding counting
+counting-more first n = map-range_with_len_more (λ k. k % 256) first n (first + n) refl
+
+set-seam : {A : Type 0} (xs : List A) (y : A) (ys : List A) (i : ℕ) (a : A) → length xs ≡ i
+    → slice_set (xs ++ y ∷ ys) i a ≡ xs ++ a ∷ ys
+set-seam xs y ys i a is = ap (λ n. slice_set (xs ++ y ∷ ys) n a) (sym is) ∙ set-append_seam xs y ys a
+
+-- a byte more
+pub counted : (first i : ℕ) (bytes initial : List ℕ) → i < length initial → bytes ≡ counting first i ++ drop i initial
+    → slice_set bytes i ((first + i) % 256) ≡ counting first (i + 1) ++ drop (i + 1) initial
+counted first i bytes initial below is =
+    let next = (first + i) % 256 in
+    ap (λ bs. slice_set bs i next) (is ∙ ap (λ t. counting first i ++ t) (drop_more initial i 0 below))
+    ∙ set-seam (counting first i) (get_or initial i 0) (drop (i + 1) initial) i next (length-counting first i)
+    ∙ sym (append_assoc (counting first i) (next ∷ []) (drop (i + 1) initial))
+    ∙ ap (λ t. t ++ drop (i + 1) initial) (sym (counting-more first i))
+
+pub counted-all : (first i : ℕ) (bytes initial : List ℕ) → bytes ≡ counting first i ++ drop i initial
+    → i ≡ length initial
+    → bytes ≡ counting first (length initial)
+counted-all first i bytes initial is ended =
+    is
+    ∙ ap (λ n. counting first n ++ drop n initial) ended
+    ∙ ap (λ t. counting first (length initial) ++ t) (drop-length initial)
+    ∙ append-nil (counting first (length initial))
 
 drop-range : (f : ℕ → ℕ) (a b n : ℕ) → drop b (map f (range_with_len a (b + n))) ≡ map f (range_with_len (a + b) n)
 drop-range f a zero n =
@@ -49,11 +80,6 @@ chunk-counting place n all h =
     ∙ ap (take n) (drop-range (λ k. k % 256) 0 place (all - place))
     ∙ take-map-range_with_len (λ k. k % 256) (0 + place) (all - place) n (omega (arith, h))
     ∙ ap (λ a. map (λ k. k % 256) (range_with_len a n)) same
-
--- the bytes that the code takes them from
-pub all-counting : COUNTING ≡ counting 0 1024
-unfolding counting
-all-counting = refl
 
 -- ---- the machine at the start
 

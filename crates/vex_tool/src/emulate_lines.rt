@@ -8,7 +8,7 @@ ghost use Rattle.vex_tool.specs.EmulateLines.{vector_lines};
 ghost use Rattle.vex_emul.specs.Run.{ran};
 ghost use Rattle.vex_tool.specs.Ends.{Writes};
 
-use crate::counting_bytes::counting;
+use crate::counting_bytes::CountingBytes;
 use crate::ends::{Failed, Sink};
 use crate::line_text::{LineText, push_hex, push_stopped};
 use std::marker::Model;
@@ -35,35 +35,36 @@ const VECTOR_STEP: usize = 16;
 const NUMBER_STEP: u64 = 32;
 
 // A vector at the start.
-fn start_vector(i: u8) -> &'static [u8]
+fn start_vector(counting: &CountingBytes, i: u8) -> &[u8]
     requires { i < 16 }
     ensures { result.now ≡ start_vector i }
 {
-    counting(VECTOR_STEP * usize::from(i), BLOCK_BYTES)
+    counting.part(VECTOR_STEP * usize::from(i), BLOCK_BYTES)
 }
 
 // Puts a machine that may have run code back to the start.
-fn put_back(machine: &mut Machine<'_>)
+fn put_back(machine: &mut Machine<'_>, counting: &CountingBytes)
     requires { length machine.old.memory ≡ 1024 }
     ensures { machine.new ≡ start }
 {
     machine.reset();
     machine
         .memory_mut()
-        .copy_from_slice(counting(0, MEMORY_BYTES));
+        .copy_from_slice(counting.part(0, MEMORY_BYTES));
     for i in 0..VECTORS {
         let mut vector = [0; BLOCK_BYTES];
-        vector.copy_from_slice(start_vector(i));
+        vector.copy_from_slice(start_vector(counting, i));
         machine.set_vector(i, &vector);
         machine.set_q(i, NUMBER_STEP * u64::from(i));
     }
 }
 
-/// A machine with 1,024 bytes of memory, which is made once and lent to each line. A line finds it as the line before
-/// left it, and begins by putting it back to the start.
+/// A machine with 1,024 bytes of memory, and the bytes of its start, which are made once and lent to each line. A line
+/// finds the machine as the line before left it, and begins by putting it back to the start.
 #[derive(Drop)]
 pub struct LineMachine<'a> {
     machine: Machine<'a>,
+    counting: CountingBytes,
 }
 
 impl<'a> Model for LineMachine<'a> {
@@ -82,6 +83,7 @@ impl<'a> LineMachine<'a> {
     pub fn new(memory: &'a mut [u8; MEMORY_BYTES]) -> LineMachine<'a> {
         LineMachine {
             machine: Machine::new(memory),
+            counting: CountingBytes::new(),
         }
     }
 
@@ -89,7 +91,7 @@ impl<'a> LineMachine<'a> {
     fn run(&mut self, settings: &InstDecoder, code: &[u8]) -> Result<usize, Halt>
         ensures { ran settings.now start code.now ≡ (self.new, result) }
     {
-        put_back(&mut self.machine);
+        put_back(&mut self.machine, &self.counting);
         run_code(&mut self.machine, settings, code)
     }
 }
@@ -132,6 +134,7 @@ fn write_changed<K: Sink>(
 // Writes the lines of the vectors that changed.
 fn write_vectors<K: Sink>(
     machine: &Machine<'_>,
+    counting: &CountingBytes,
     text: &mut LineText,
     sink: &mut K,
 ) -> Result<(), Failed>
@@ -140,7 +143,14 @@ fn write_vectors<K: Sink>(
 {
     for i in 0..VECTORS {
         let number = usize::from(i);
-        write_changed("y", number, machine.vector(i), start_vector(i), text, sink)?;
+        write_changed(
+            "y",
+            number,
+            machine.vector(i),
+            start_vector(counting, i),
+            text,
+            sink,
+        )?;
     }
     Ok(())
 }
@@ -155,14 +165,19 @@ fn block_at(memory: &[u8], place: usize) -> &[u8]
 }
 
 // Writes the lines of the blocks of the memory that changed.
-fn write_blocks<K: Sink>(memory: &[u8], text: &mut LineText, sink: &mut K) -> Result<(), Failed>
+fn write_blocks<K: Sink>(
+    memory: &[u8],
+    counting: &CountingBytes,
+    text: &mut LineText,
+    sink: &mut K,
+) -> Result<(), Failed>
     requires { length memory.now ≡ 1024 }
     ensures { Writes result (K.text sink.old) (K.text sink.new) (K.faults sink.old) (K.faults sink.new)
         (block_lines memory.now) }
 {
     for b in 0..BLOCKS {
         let place = BLOCK_BYTES * b;
-        let start = counting(place, BLOCK_BYTES);
+        let start = counting.part(place, BLOCK_BYTES);
         write_changed("m", place, block_at(memory, place), start, text, sink)?;
     }
     Ok(())
@@ -196,8 +211,8 @@ pub fn write_emulated<K: Sink>(
         (emulate_lines settings.now code.now) }
 {
     let answer = machine.run(settings, code);
-    write_vectors(&machine.machine, text, sink)?;
-    write_blocks(machine.machine.memory(), text, sink)?;
+    write_vectors(&machine.machine, &machine.counting, text, sink)?;
+    write_blocks(machine.machine.memory(), &machine.counting, text, sink)?;
     ran_text(text, &answer);
     sink.write_all(text.as_str().as_bytes())
 }

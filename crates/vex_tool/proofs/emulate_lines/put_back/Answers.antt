@@ -6,7 +6,7 @@ use Rattle.vex_tool.proofs.emulate_lines.put_back.Goals as goal
 pub copy_from_slice-requires : goal.copy_from_slice-requires
 copy_from_slice-requires c =
     ap length c.memory_mut.ensures.is ∙ ap (λ (s : State). length s.memory) c.reset.ensures ∙ c.requires
-    ∙ sym (ap length c.counting.ensures ∙ length-counting 0 1024)
+    ∙ sym (ap length c.part.ensures ∙ length-counting 0 1024)
 
 pub copy_from_slice-requires-in-loop-i : goal.copy_from_slice-requires-in-loop-i
 copy_from_slice-requires-in-loop-i c =
@@ -15,7 +15,7 @@ copy_from_slice-requires-in-loop-i c =
 pub loop-i-init : goal.loop-i-init
 loop-i-init c =
     started-none c.reset.new.self c.args.machine.now.memory c.copy_from_slice.new.self c.reset.ensures
-    (c.copy_from_slice.ensures.after ∙ c.counting.ensures)
+    (c.copy_from_slice.ensures.after ∙ c.part.ensures)
 
 pub loop-i-preserved : goal.loop-i-preserved
 loop-i-preserved c =

@@ -16,8 +16,8 @@ returns-in_err-write_changed g c =
     let memory = c.args.memory.now in
     let b = c.loop-b.b in
     let line =
-    block-is memory b c.block_at.result.now c.counting-start.result.now c.loop-b-test.true c.block_at.ensures.is
-    c.counting-start.ensures in
+    block-is memory b c.block_at.result.now c.part-start.result.now c.loop-b-test.true c.block_at.ensures.is
+    c.part-start.ensures in
     number-fault (block_line memory) 32 b _ _ c.loop-b.invariant _ failed.0 (record { text = _; faults = _ }) failed.1
     c.loop-b-test.true (rw line at c.in_err-write_changed.ensures.front) c.in_err-write_changed.ensures.cause
 
@@ -26,8 +26,8 @@ loop-b-preserved g c =
     let memory = c.args.memory.now in
     let b = c.loop-b.b in
     let line =
-    block-is memory b c.block_at.result.now c.counting-start.result.now c.loop-b-test.true c.block_at.ensures.is
-    c.counting-start.ensures in
+    block-is memory b c.block_at.result.now c.part-start.result.now c.loop-b-test.true c.block_at.ensures.is
+    c.part-start.ensures in
     let more = c.in_ok-write_changed.ensures in
     number-written (block_line memory) 32 b _ _ c.loop-b.invariant _ c.loop-b-test.true (rw line at more.appends)
     more.quiet
