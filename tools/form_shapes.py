@@ -14,7 +14,8 @@ SLOT = re.compile(r"(VInRegister|G|V|E|R4)\((\w+)\)|(U8|I8)")
 COUNT = re.compile(r"(Nothing|Is|CountByL|CountByW)(?:\((\d+)(?:, (\d+))?\))?")
 
 # What the file begins with, after its first line, and the list of shapes before its declaration.
-HEAD = """//!
+HEAD = """\
+//!
 //! Those of a form stand one after another, in the order of `Form`: by W, then L, then the place of the operand E.
 
 use crate::shape::ShapeSize::{Always, ByOpcode};
@@ -28,10 +29,13 @@ use vex_rows::ByteCount::{ByL, Is};
 use vex_rows::SizeList;
 use x86_operand::RegisterBank::{D, Q, X, Y};
 
-// The sizes that go by the opcode, as the table of forms names them."""
-SHAPES_HEAD = """/// The shapes of all forms: that of a form at W, L and a place of the operand E, 1 in memory, stands at 8 times the
+// The sizes that go by the opcode, as the table of forms names them.
+"""
+SHAPES_HEAD = """\
+/// The shapes of all forms: that of a form at W, L and a place of the operand E, 1 in memory, stands at 8 times the
 /// form's number + 4 * W + 2 * L + place.
-#[rattlefmt::skip]"""
+#[rattlefmt::skip]
+"""
 
 
 def fields(text):

@@ -382,7 +382,7 @@ def vex_parts(parts):
 
 
 def settle(files, script, check):
-    """Writes the lines of each file; with `check` it shows instead how each differs. Answers 1 where one does, else 0."""
+    """Writes the lines of each file, or with `check` shows how each differs. Answers 1 where one does, and else 0."""
     status = 0
     for path, lines in files.items():
         before, text = path.read_text() if path.exists() else "", "\n".join(lines) + "\n"
