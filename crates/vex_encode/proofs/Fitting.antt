@@ -4,14 +4,13 @@ use Rattle.std.specs.List.{list_any}
 use Rattle.std.proofs.Common.{zero, suc, get_or, add-one, arith}
 use Rattle.x86_operand.specs.declared.register.RegisterBank.{RegisterBank}
 use Rattle.x86_operand.specs.Kind.{Kind, WithoutModRM, InRegister, InMemory, VectorIndexed}
-use Rattle.x86_operand.specs.Instruction.{operand_at}
 use Rattle.x86_operand.specs.Meaning.{OperandMeaning, register, memory, nothing}
 use Rattle.vex_rows.specs.Row.{is_memory}
 use Rattle.vex_forms.specs.declared.slot.Slot.{Slot}
 use Rattle.vex_forms.specs.declared.slot.Slot.TheVariants.{G, V, E, U8, I8, R4}
 use Rattle.vex_forms.specs.Slots.{names_e}
 use Rattle.vex_encode.specs.declared.operand_walk.Asked.{Asked}
-use Rattle.vex_encode.specs.Assembly.{IsAsked, IsPlaced, IsRegisterOf}
+use Rattle.vex_encode.specs.Assembly.{IsAsked, IsPlaced}
 use Rattle.vex_encode.specs.Conditions.{PlacedFits, OperandFits, OperandsFit}
 use Rattle.vex_encode.specs.Standard.{operand_of_kind}
 
@@ -133,17 +132,3 @@ placed InRegister index_bank slots operands fit named = tt
 placed InMemory index_bank slots operands fit named = placed_memory InMemory index_bank slots operands fit (named refl)
 placed VectorIndexed index_bank slots operands fit named =
     placed_memory VectorIndexed index_bank slots operands fit (named refl)
-
--- the operand at a first slot of the field reg is a register of its bank
-pub first_register : (kind : Kind) (index_bank bank : RegisterBank) (slots : List Slot) (operands : List OperandMeaning)
-    → OperandsFit kind index_bank (G bank ∷ slots) operands → IsRegisterOf bank (operand_at operands 0)
-first_register kind index_bank bank slots [] fit = absurd fit
-first_register kind index_bank bank slots (register reg ∷ operands) fit = fit.0
-first_register kind index_bank bank slots (_ ∷ operands) fit = absurd fit.0
-
--- so is that at a first slot of the operand E, in a register row
-pub first_e : (index_bank bank : RegisterBank) (slots : List Slot) (operands : List OperandMeaning)
-    → OperandsFit InRegister index_bank (E bank ∷ slots) operands → IsRegisterOf bank (operand_at operands 0)
-first_e index_bank bank slots [] fit = absurd fit
-first_e index_bank bank slots (register reg ∷ operands) fit = fit.0
-first_e index_bank bank slots (_ ∷ operands) fit = absurd fit.0

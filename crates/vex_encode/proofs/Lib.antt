@@ -7,6 +7,7 @@ pub mod Conditions
 pub mod Search
 pub mod Entries
 pub mod PassedOver
+pub mod Excluded
 pub mod Addresses
 pub mod Asked
 pub mod Fitting

@@ -29,7 +29,7 @@ use Rattle.vex_encode.proofs.Search.{among_at, first_none}
 -- ---- rows that there are none of
 
 -- standard bytes are those of a row that exists
-there : (row : Row) (m : Meaning) (bytes : List ℕ) → standard_of row m ≡ Some bytes → exists row ≡ true
+pub there : (row : Row) (m : Meaning) (bytes : List ℕ) → standard_of row m ≡ Some bytes → exists row ≡ true
 there row m bytes e = by (exists row) refl e where
   by : (b : Bool) → exists row ≡ b → (if b then standard row m else None) ≡ Some bytes → b ≡ true
   by true h e = refl

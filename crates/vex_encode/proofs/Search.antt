@@ -129,6 +129,20 @@ pub first_none : (m : Meaning) (xs : List Row) → ((row : Row) → Among row xs
 first_none m [] h = refl
 first_none m (x ∷ xs) h = rw (h x (inl refl)) (first_none m xs (λ row k. h row (inr k)))
 
+-- and there is one where a row can
+pub first_given : (m : Meaning) (xs : List Row) (row : Row) (bytes : List ℕ) → Among row xs
+    → standard_of row m ≡ Some bytes → first m xs ≡ None → ⊥
+first_given m [] row bytes among e none = absurd among
+first_given m (x ∷ xs) row bytes (inl is) e none =
+    let here : standard_of x m ≡ Some bytes = ap (λ r. standard_of r m) (sym is) ∙ e in
+    let never : Some bytes ≡ None = ap (λ o. first_of o (first m xs)) (sym here) ∙ none in
+    cc
+first_given m (x ∷ xs) row bytes (inr among) e none =
+    by (standard_of x m) none (first_given m xs row bytes among e) where
+      by : (o : Option (List ℕ)) → first_of o (first m xs) ≡ None → (first m xs ≡ None → ⊥) → ⊥
+      by None later never = never later
+      by (Some other) later never = cc
+
 -- the standard bytes by a row are no longer than those by another, where both are there
 abbrev pub NoLonger : Meaning → Row → Row → Type 0
 NoLonger m row other = (a b : List ℕ) → standard_of row m ≡ Some a → standard_of other m ≡ Some b → length a ≤ length b
@@ -252,3 +266,7 @@ first_found (Some x) b h = refl
 pub first_missing : (a b : Option (List ℕ)) → is_some a ≡ false → b ≡ first_of a b
 first_missing None b h = refl
 first_missing (Some x) b h = cc
+
+pub none_found : (a : Option (List ℕ)) → is_some a ≡ false → a ≡ None
+none_found None h = refl
+none_found (Some x) h = cc

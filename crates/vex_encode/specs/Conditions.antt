@@ -1,5 +1,6 @@
 -- When a row can give a meaning: what each slot asks of its operand.
 use Rattle.std.specs.Prelude.{◌≡◌, ◌⊎◌, ◌≤◌, FitsSigned, Bool, true, false, List, [], ◌∷◌, Option, Some, None}
+use Rattle.std.specs.Prelude.{if◌then◌else◌}
 use Rattle.std.specs.Int.{w8, w32}
 use Rattle.x86_operand.specs.declared.register.RegisterBank.{RegisterBank}
 use Rattle.x86_operand.specs.declared.register.RegisterBank.TheVariants.{Q, RIP}
@@ -74,3 +75,15 @@ pub record CanGive (row : Row) (m : Meaning) : Type 0 where
   pub opcode : m.opcode ≡ opcode_of row
   pub size : m.size ≡ size_of row
   pub operands : OperandsFit row.kind (index_bank row) (slots row) m.operands
+
+-- the bank of the first operand, where that is a register
+abbrev pub first_bank : List OperandMeaning → Option RegisterBank
+first_bank (register reg ∷ operands) = Some reg.bank
+first_bank _ = None
+
+-- an operand can stand at the first slot of a row, with its operand E in memory or not, as far as its bank tells
+abbrev pub MayBegin : Option Slot → Bool → Option RegisterBank → Type 0
+MayBegin (Some (G bank)) in_memory first = first ≡ Some bank
+MayBegin (Some (V bank)) in_memory first = first ≡ Some bank
+MayBegin (Some (E bank)) in_memory first = first ≡ (if in_memory then None else Some bank)
+MayBegin _ in_memory first = Unit {0}

@@ -1,26 +1,28 @@
 //! The shortest spelling of an instruction.
 
-ghost use Rattle.std.specs.Prelude.{ℕ, ◌≡◌, ◌+◌, ◌<◌, ◌≤◌, ◌==◌, false, true, length, flat_map, if◌then◌else◌};
+ghost use Rattle.std.specs.Prelude.{ℕ, ◌≡◌, ◌+◌, ◌<◌, ◌≤◌, ◌==◌, ◌||◌, not, false, true, length, flat_map};
+ghost use Rattle.std.specs.Prelude.{if◌then◌else◌};
 ghost use Rattle.std.specs.List.{list_any};
 ghost use Rattle.std.specs.Option.{ForSome};
 ghost use Rattle.x86_operand.specs.Instruction.{operand_at};
 ghost use Rattle.x86_operand.specs.Meaning.{operand_meaning};
-ghost use Rattle.x86_operand.specs.declared.register.RegisterBank.{RegisterBank};
 ghost use Rattle.vex_rows.specs.declared.entry.Entry.{Entry};
 ghost use Rattle.vex_rows.specs.Row.{Among, choices, choices_of_l, choices_of_w};
 ghost use Rattle.vex_rows.specs.Groups.{groups};
+ghost use Rattle.vex_rows.specs.Rules.{allows};
 ghost use Rattle.vex_rows.specs.Table.{table};
 ghost use Rattle.vex_forms.specs.Layout.{chosen, row_for, rules_allow};
-ghost use Rattle.vex_forms.specs.Slots.{slots};
+ghost use Rattle.vex_forms.specs.Slots.{goes_by_w, slots};
 ghost use Rattle.vex_decode.specs.Spelling.{bytes_of};
 ghost use Rattle.vex_encode.specs.Assembly.{IsAsked, IsPlaced};
 ghost use Rattle.vex_encode.specs.Canon.{canon};
+ghost use Rattle.vex_encode.specs.Conditions.{first_bank};
 ghost use Rattle.vex_encode.specs.Encode.{best, first, is_address, shorter_of, standard_of};
 ghost use Rattle.vex_forms.specs.Reads.{kind_seen};
 ghost use Rattle.vex_encode.specs.Standard.{candidate};
 
 use crate::assembly::operand_fields;
-use crate::fits::given;
+use crate::fits::{first_bank, given, may_begin};
 use crate::operand_walk::Asked;
 use crate::place::place_of;
 use crate::spell::spell;
@@ -29,9 +31,9 @@ use arrayvec::ArrayVec;
 use std::sync::ledger::Ledger;
 use step_counter::Steps;
 use vex_forms::laws::rows_are_choices;
-use vex_forms::{Choice, Kind, is_row, rules_allow};
+use vex_forms::{Choice, Kind, first_slot, goes_by_w, is_row, rules_allow};
 use vex_rows::{Entry, Few, Form, Prefix, entries_of, row_of_form};
-use x86_operand::{Instruction, Opcode, Operand};
+use x86_operand::{Instruction, Opcode, Operand, RegisterBank};
 
 /// Whether an operand is an address.
 fn is_address(operand: Operand) -> bool
@@ -185,13 +187,18 @@ fn standard_at(
     w: bool,
     l: bool,
     memory: bool,
+    bank: Option<RegisterBank>,
     instruction: &Instruction,
 ) -> Option<Spelling>
     requires listed { Among entry.now table }
     requires memory { memory ≡ list_any is_address instruction.now.meaning.operands }
+    requires bank { bank ≡ first_bank instruction.now.meaning.operands }
     ensures { result ≡ first instruction.now.meaning (choices_of_l entry.now w (if l then 1 else 0)) }
 {
     if !rules_allow(entry, w, l) {
+        return None;
+    }
+    if !may_begin(first_slot(entry, w, l, memory), memory, bank) {
         return None;
     }
     if !is_alone(entry.form) {
@@ -206,32 +213,52 @@ fn standard_by_l(
     entry: &Entry,
     w: bool,
     memory: bool,
+    bank: Option<RegisterBank>,
     instruction: &Instruction,
 ) -> Option<Spelling>
     requires listed { Among entry.now table }
     requires memory { memory ≡ list_any is_address instruction.now.meaning.operands }
+    requires bank { bank ≡ first_bank instruction.now.meaning.operands }
     ensures { result ≡ first instruction.now.meaning (choices_of_w entry.now w) }
 {
-    let found = standard_at(entry, w, false, memory, instruction);
+    let found = standard_at(entry, w, false, memory, bank, instruction);
     if found.is_some() {
         return found;
     }
-    standard_at(entry, w, true, memory, instruction)
+    standard_at(entry, w, true, memory, bank, instruction)
+}
+
+/// Whether a row of an entry with W 1 may give an instruction that none with W 0 can: W 0 isn't allowed, or the form goes
+/// by W.
+#[inline(always)]
+fn wants_w(entry: &Entry) -> bool
+    ensures { result ≡ (not (allows entry.now.w false) || goes_by_w entry.now.form) }
+{
+    !entry.w.allows(false) || goes_by_w(entry.form)
 }
 
 /// The shortest standard spelling of an instruction by the rows of an entry, where there is one. That is the one of the
 /// first row that can give it: the rows differ in length by W alone, and those with W 0 come first.
 #[inline(always)]
-fn standard_by_entry(entry: &Entry, memory: bool, instruction: &Instruction) -> Option<Spelling>
+fn standard_by_entry(
+    entry: &Entry,
+    memory: bool,
+    bank: Option<RegisterBank>,
+    instruction: &Instruction,
+) -> Option<Spelling>
     requires listed { Among entry.now table }
     requires memory { memory ≡ list_any is_address instruction.now.meaning.operands }
+    requires bank { bank ≡ first_bank instruction.now.meaning.operands }
     ensures { result ≡ best instruction.now.meaning (choices entry.now) }
 {
-    let found = standard_by_l(entry, false, memory, instruction);
+    let found = standard_by_l(entry, false, memory, bank, instruction);
     if found.is_some() {
         return found;
     }
-    standard_by_l(entry, true, memory, instruction)
+    if !wants_w(entry) {
+        return None;
+    }
+    standard_by_l(entry, true, memory, bank, instruction)
 }
 
 /// Whether a spelling is there, and another isn't or is longer.
@@ -252,9 +279,10 @@ fn standard_by_entries(entries: &[Entry], instruction: &Instruction) -> Option<S
     ensures { result ≡ best instruction.now.meaning (flat_map choices entries.now) }
 {
     let memory = has_address(instruction);
+    let bank = first_bank(instruction);
     let mut shortest = None;
     for entry in entries {
-        let found = standard_by_entry(entry, memory, instruction);
+        let found = standard_by_entry(entry, memory, bank, instruction);
         if is_shorter(&found, &shortest) {
             shortest = found;
         }

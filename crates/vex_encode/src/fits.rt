@@ -1,13 +1,13 @@
 //! Whether a row can give an instruction: what it asks of the mark, the opcode, the size and each operand.
 
-ghost use Rattle.std.specs.Prelude.{◌≡◌, ◌↔◌, IsSome, IfSome, IsTrue};
+ghost use Rattle.std.specs.Prelude.{◌≡◌, ◌↔◌, IsSome, IfSome, IsTrue, Some};
 ghost use Rattle.x86_operand.specs.Meaning.{operand_meaning};
 ghost use Rattle.vex_forms.specs.Layout.{chosen};
 ghost use Rattle.vex_forms.specs.Slots.{slots};
 ghost use Rattle.vex_encode.specs.Assembly.{IsAddressOf, IsAsked, IsRegisterOf};
 ghost use Rattle.vex_forms.specs.Reads.{kind_seen};
-ghost use Rattle.vex_encode.specs.Conditions.{AddressFits, CanGive, OperandsFit, PlacedFits, RegisterFits};
-ghost use Rattle.vex_encode.specs.Conditions.{SlotBaseFits, SlotIndexFits};
+ghost use Rattle.vex_encode.specs.Conditions.{AddressFits, CanGive, MayBegin, PlacedFits, RegisterFits, SlotBaseFits};
+ghost use Rattle.vex_encode.specs.Conditions.{SlotIndexFits, first_bank};
 
 use crate::operand_walk::{Asked, operands_asked};
 use vex_forms::{Choice, Kind, Slot};
@@ -94,20 +94,43 @@ pub fn placed_fits(
     }
 }
 
-/// Whether the first operand can stand at the first slot, as far as is seen at once. It tells most rows of an entry
-/// apart, by their L.
-#[tactic(auto, using(crate::proofs::Fitting::first_register, crate::proofs::Fitting::first_e))]
-#[inline(always)]
-fn first_may_fit(kind: Kind, slots: &[Slot], instruction: &Instruction) -> bool
-    ensures { (bank : RegisterBank)
-        → OperandsFit (kind_seen kind) bank slots.now instruction.now.meaning.operands → IsTrue result }
+/// The bank of the first operand, where that is a register.
+pub fn first_bank(instruction: &Instruction) -> Option<RegisterBank>
+    ensures { result ≡ first_bank instruction.now.meaning.operands }
 {
-    match slots {
-        [Slot::G(bank), ..] => is_register_of(*bank, instruction.operand(0)),
-        [Slot::E(bank), ..] if kind == Kind::Register => is_register_of(
-            *bank,
-            instruction.operand(0),
-        ),
+    match instruction.operand(0) {
+        Operand::Register { reg } => Some(reg.bank()),
+        _ => None,
+    }
+}
+
+/// Whether a register is the first operand, and of that bank.
+#[inline(always)]
+fn begins_with(bank: RegisterBank, first: Option<RegisterBank>) -> bool
+    ensures { IsTrue result ↔ first ≡ Some bank }
+{
+    match first {
+        Some(other) => other == bank,
+        None => false,
+    }
+}
+
+/// Whether an operand can stand at the first slot of a row, with its operand E in memory or not, as far as is told by
+/// the bank that the operand has where it is a register. It tells most rows of an entry apart, by their L.
+#[inline(always)]
+pub fn may_begin(slot: Option<Slot>, memory: bool, first: Option<RegisterBank>) -> bool
+    ensures { IsTrue result ↔ MayBegin slot memory first }
+{
+    match slot {
+        Some(Slot::G(bank)) => begins_with(bank, first),
+        Some(Slot::V(bank)) => begins_with(bank, first),
+        Some(Slot::E(bank)) => {
+            if memory {
+                first.is_none()
+            } else {
+                begins_with(bank, first)
+            }
+        }
         _ => true,
     }
 }
@@ -123,9 +146,6 @@ pub fn given(kind: Kind, choice: &Choice, instruction: &Instruction) -> Option<A
         instruction.now.meaning.operands) }
 {
     let (slots, index_bank) = choice.slots_and_index_bank();
-    if !first_may_fit(kind, slots.as_slice(), instruction) {
-        return None;
-    }
     if instruction.is_evex() || instruction.mem_size() != choice.memory_size() {
         return None;
     }

@@ -1,6 +1,7 @@
 pub mod SizesFit
 pub mod Choices
 pub mod Shaping
+pub mod ByW
 pub mod Choosing
 pub mod Fit
 mod Adding

@@ -2,7 +2,7 @@
 use Rattle.std.specs.Prelude.{◌≡◌, refl, ℕ, Bool, true, false, not, ◌&&◌, ◌||◌, List, [], ◌∷◌, map, take, Option, None}
 use Rattle.std.specs.Prelude.{Some, if◌then◌else◌}
 use Rattle.std.specs.List.{list_all}
-use Rattle.std.proofs.Common.{ap, sym, ◌∙◌}
+use Rattle.std.proofs.Common.{zero, suc, ap, sym, ◌∙◌}
 use Rattle.x86_opcode.specs.declared.Opcode.{Opcode}
 use Rattle.x86_opcode.specs.declared.Opcode.TheVariants.{Invalid}
 use Rattle.x86_operand.specs.declared.register.RegisterBank.{RegisterBank}
@@ -27,8 +27,8 @@ use Rattle.vex_forms.specs.declared.slot.Slot.{Slot}
 use Rattle.vex_forms.specs.declared.shape.RowShape.{RowShape}
 use Rattle.vex_forms.specs.Layout.{group_for, kind_for, may_be, row_for, rules_allow}
 use Rattle.vex_forms.specs.Shapes.{shape_of, size_in, four_slots, slots_by, slots_in, slots_seen, with_bank, with_e_in}
-use Rattle.vex_forms.specs.Slots.{element_bank, gather_bank, gather_index_bank, general, index_bank, size_of, slots}
-use Rattle.vex_forms.specs.Slots.{v_rule, vector}
+use Rattle.vex_forms.specs.Slots.{element_bank, first_of, gather_bank, gather_index_bank, general, index_bank}
+use Rattle.vex_forms.specs.Slots.{size_of, slots, v_rule, vector}
 use Rattle.vex_forms.proofs.Choices.{exists_by_checks}
 
 -- an entry that has a form
@@ -152,6 +152,23 @@ shaped true true true Nothing entry group =
 shaped true true true _ entry group = record
     { group = refl; slots = refl; vvvv = refl; size = refl; permitted = refl; refused = refl }
 
+-- fixed slots are the shape's
+fixed_kept : (banks : BanksByOpcode) (n : ℕ) (four : List Slot) (l : ℕ) (o : Opcode) → banks ≡ Fixed
+    → take n four ≡ take n (slots_by banks l o four)
+fixed_kept Fixed n four l o is = refl
+fixed_kept Element n four l o is = cc
+fixed_kept Gather n four l o is = cc
+
+-- the first slot of a shape, and none where it has none
+pub none_first : (shape : RowShape) → shape.slot_count ≡ 0 → None ≡ first_of (slots_seen shape)
+none_first shape h = rw h refl
+
+pub some_first : (shape : RowShape) → (shape.slot_count ≡ 0 → ⊥) → Some shape.slots.0 ≡ first_of (slots_seen shape)
+some_first shape never = by shape.slot_count never where
+  by : (n : ℕ) → (n ≡ 0 → ⊥) → Some shape.slots.0 ≡ first_of (take n (four_slots shape))
+  by zero h = absurd (h refl)
+  by (suc n) h = refl
+
 -- slots of one bank by the opcode, where those with that bank are these
 element_moved : (banks : BanksByOpcode) (n : ℕ) (four : List Slot) (l : ℕ) (o : Opcode) (bank : RegisterBank)
     (others xs ys : List Slot) → banks ≡ Element → element_bank o ≡ bank
@@ -207,7 +224,10 @@ module _ (entry : Entry) (w l memory : Bool) (group : Option ℕ) where
   pub size_shaped : size_in shape.size row ≡ size_of row
   size_shaped = is_shape.size
 
-  -- the shape that has the slots, where banks go by the opcode
+  -- the shape that has the slots, where banks don't go by the opcode, and where they do
+  pub fixed_shaped : shape.banks ≡ Fixed → slots_seen shape ≡ slots row
+  fixed_shaped is = fixed_kept shape.banks shape.slot_count (four_slots shape) row.l entry.opcode is ∙ slots_shaped
+
   pub element_shaped : (quadword : Bool) → shape.banks ≡ Element → element_bank entry.opcode ≡ general quadword
       → slots_seen (shape_of entry.form quadword l memory) ≡ slots row
   element_shaped true is bank = element_moved shape.banks shape.slot_count (four_slots shape) row.l entry.opcode Q _ _

@@ -85,6 +85,11 @@ slots_of form row = flat_map (slots_at row) (items (form_row form).slots)
 unfoldable pub slots : Row → List Slot
 slots row = slots_of row.entry.form row
 
+-- the first of some slots
+abbrev pub first_of : List Slot → Option Slot
+first_of [] = None
+first_of (slot ∷ slots) = Some slot
+
 -- the bank of the index of a row's address: a vector register where its form gathers (Intel SDM volume 2, section
 -- 2.3.12)
 unfoldable pub index_bank : Row → RegisterBank
@@ -116,6 +121,37 @@ unfoldable pub size_of : Row → Option ℕ
 size_of row =
     if is_memory row.kind then size_at row (form_row row.entry.form).size
     else bytes_at row (form_row row.entry.form).register_size
+
+-- whether a bank goes by W
+abbrev pub bank_goes_by_w : BankRule → Bool
+bank_goes_by_w rule.ByW = true
+bank_goes_by_w _ = false
+
+-- whether the bank of a slot does
+abbrev pub slot_goes_by_w : SlotRule → Bool
+slot_goes_by_w (slot_rule.G bank) = bank_goes_by_w bank
+slot_goes_by_w (slot_rule.V bank) = bank_goes_by_w bank
+slot_goes_by_w (slot_rule.VInRegister bank) = bank_goes_by_w bank
+slot_goes_by_w (slot_rule.E bank) = bank_goes_by_w bank
+slot_goes_by_w slot_rule.U8 = false
+slot_goes_by_w slot_rule.I8 = false
+slot_goes_by_w (slot_rule.R4 bank) = bank_goes_by_w bank
+
+-- whether a number of bytes does
+abbrev pub count_goes_by_w : ByteCount → Bool
+count_goes_by_w (ByW narrow wide) = true
+count_goes_by_w _ = false
+
+-- whether the size of the operand E does
+abbrev pub size_goes_by_w : SizeRule → Bool
+size_goes_by_w (Always count) = count_goes_by_w count
+size_goes_by_w (ByOpcode list other) =
+    count_goes_by_w other || list_any (λ size. count_goes_by_w size.1) (sizes list)
+
+-- whether the rows of a form go by W: the bank of a slot or a size does
+unfoldable pub goes_by_w : Form → Bool
+goes_by_w form = list_any slot_goes_by_w (items (form_row form).slots) || size_goes_by_w (form_row form).size
+    || count_goes_by_w (form_row form).register_size
 
 -- whether a slot is that of the field reg
 abbrev pub names_g : Slot → Bool

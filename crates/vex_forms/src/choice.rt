@@ -9,7 +9,7 @@ ghost use Rattle.vex_rows.specs.Row.{exists, group_opcode, has_groups, has_imm, 
 ghost use Rattle.vex_rows.specs.Row.{opcode_of};
 ghost use Rattle.vex_forms.specs.Layout.{chosen, may_be, row_for, rules_allow};
 ghost use Rattle.vex_forms.specs.Shapes.{shape_of, size_in, slots_in};
-ghost use Rattle.vex_forms.specs.Slots.{size_of, slots, v_rule};
+ghost use Rattle.vex_forms.specs.Slots.{goes_by_w, size_of, slots, v_rule};
 
 use crate::shape::{RowShape, shape_at};
 use crate::slot::VvvvRule;
@@ -58,6 +58,18 @@ pub fn is_row(entry: &Entry, w: bool, l: bool, memory: bool, group: u8) -> bool
 {
     let shape = shape_at(entry.form, w, l, memory);
     shape.is_row && (!shape.has_group || row_of_form(entry.form).is_group(group))
+}
+
+/// Whether the rows of a form go by W: the bank of an operand or a size does. The rows of all other forms have the same
+/// operands at both W.
+#[inline(always)]
+pub fn goes_by_w(form: Form) -> bool
+    ensures { result ≡ goes_by_w form }
+{
+    matches!(
+        form,
+        Form::G_V_E | Form::G_E_V | Form::G_E_Ib | Form::BMI1_F3
+    )
 }
 
 impl Choice {

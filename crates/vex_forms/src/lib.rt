@@ -44,7 +44,7 @@ mod sizes;
 mod slot;
 mod slots;
 
-pub use choice::{Choice, is_row, rules_allow};
+pub use choice::{Choice, goes_by_w, is_row, rules_allow};
 pub use instruction::instruction_of;
 pub use kind::Kind;
 pub use operand_e::OperandE;
@@ -52,6 +52,7 @@ pub use operand_fields::OperandFields;
 pub use reading::{read_form, read_form_into};
 pub use row_layout::{RowLayout, layout};
 pub use slot::{Slot, VvvvRule};
+pub use slots::first_slot;
 
 #[cfg(test)]
 mod reading_tests;

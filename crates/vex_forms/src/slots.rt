@@ -1,15 +1,17 @@
 //! The slots of a row, and the banks of the registers that they name.
 
-ghost use Rattle.std.specs.Prelude.{◌≡◌, [], ◌∷◌, take, if◌then◌else◌};
-ghost use Rattle.vex_forms.specs.Layout.{chosen};
+ghost use Rattle.std.specs.Prelude.{◌≡◌, ℕ, Option, [], ◌∷◌, take, if◌then◌else◌};
+ghost use Rattle.vex_rows.specs.Row.{row_at};
+ghost use Rattle.vex_forms.specs.Layout.{chosen, kind_for};
 ghost use Rattle.vex_forms.specs.Shapes.{slots_seen};
-ghost use Rattle.vex_forms.specs.Slots.{element_bank, gather_bank, gather_index_bank, general, index_bank, slots};
-ghost use Rattle.vex_forms.specs.Slots.{vector};
+ghost use Rattle.vex_forms.specs.Slots.{element_bank, first_of, gather_bank, gather_index_bank, general, index_bank};
+ghost use Rattle.vex_forms.specs.Slots.{slots, vector};
 
 use crate::choice::Choice;
 use crate::shape::{BanksByOpcode, RowShape, shape_at};
 use crate::slot::Slot;
 use arrayvec::ArrayVec;
+use vex_rows::Entry;
 use x86_operand::RegisterBank::{Q, X, Y};
 use x86_operand::{Opcode, RegisterBank};
 
@@ -54,30 +56,57 @@ fn first_slots(slots: (Slot, Slot, Slot, Slot), count: u8) -> ArrayVec<Slot, 4>
     first
 }
 
+/// The shape that has the slots of an entry's rows, and the bank of the index of an address. The shape is the rows' own,
+/// and where the opcode says the banks, that of the form at the W or L with these banks. The index is a vector register
+/// where the form gathers, and of bank `Q` elsewhere.
+#[inline(always)]
+fn shape_and_index_bank(
+    entry: &Entry,
+    w: bool,
+    l: bool,
+    memory: bool,
+) -> (&'static RowShape, RegisterBank)
+    ensures slots { (group : Option ℕ) → slots_seen result.0.now ≡ slots (row_at entry.now w (if l then 1 else 0)
+        (kind_for entry.now.form memory) group) }
+    ensures index { (group : Option ℕ) → result.1 ≡ index_bank (row_at entry.now w (if l then 1 else 0)
+        (kind_for entry.now.form memory) group) }
+{
+    let shape = shape_at(entry.form, w, l, memory);
+    match shape.banks {
+        BanksByOpcode::Fixed => (shape, Q),
+        BanksByOpcode::Element => {
+            let w = is_quadword(entry.opcode);
+            (shape_at(entry.form, w, l, memory), Q)
+        }
+        BanksByOpcode::Gather => {
+            let (l, index_bank) = gather_banks(l, entry.opcode);
+            (shape_at(entry.form, w, l, memory), index_bank)
+        }
+    }
+}
+
+/// The first slot of the rows of an entry at that W, L and place of the operand E, `None` where they have no operands.
+/// It is there before a `Choice` is made, so that most rows that an instruction excludes are told at once.
+#[inline(always)]
+pub fn first_slot(entry: &Entry, w: bool, l: bool, memory: bool) -> Option<Slot>
+    ensures { (group : Option ℕ) → result ≡ first_of (slots (row_at entry.now w (if l then 1 else 0)
+        (kind_for entry.now.form memory) group)) }
+{
+    let (shape, _) = shape_and_index_bank(entry, w, l, memory);
+    if shape.slot_count == 0 {
+        return None;
+    }
+    Some(shape.slots.0)
+}
+
 impl Choice {
-    /// The shape that has the row's slots, and the bank of the index of an address. The shape is the row's own, and
-    /// where the opcode says the banks, that of the form at the W or L with these banks. The index is a vector register
-    /// where the form gathers, and of bank `Q` elsewhere.
+    /// The shape that has the row's slots, and the bank of the index of an address.
     #[inline(always)]
     pub(crate) fn shape_and_index_bank(&self) -> (&'static RowShape, RegisterBank)
         ensures slots { slots_seen result.0.now ≡ slots (chosen self.now) }
         ensures index { result.1 ≡ index_bank (chosen self.now) }
     {
-        let shape = self.shape();
-        match shape.banks {
-            BanksByOpcode::Fixed => (shape, Q),
-            BanksByOpcode::Element => {
-                let w = is_quadword(self.entry.opcode);
-                (shape_at(self.entry.form, w, self.l, self.memory), Q)
-            }
-            BanksByOpcode::Gather => {
-                let (l, index_bank) = gather_banks(self.l, self.entry.opcode);
-                (
-                    shape_at(self.entry.form, self.w, l, self.memory),
-                    index_bank,
-                )
-            }
-        }
+        shape_and_index_bank(&self.entry, self.w, self.l, self.memory)
     }
 
     /// The slots of the row, one for each operand in order, and the bank of the index of an address: a vector register
