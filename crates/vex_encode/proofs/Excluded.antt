@@ -2,10 +2,10 @@
 use Rattle.std.specs.Prelude.{◌≡◌, refl, ℕ, ◌≤◌, Bool, true, false, not, ◌||◌, ◌&&◌, ◌==◌, List, [], ◌∷◌}
 use Rattle.std.specs.Prelude.{Option, Some, None, if◌then◌else◌}
 use Rattle.std.specs.List.{list_any}
-use Rattle.std.proofs.Common.{zero, suc, inl, inr, arith, sym, ap, subst, ◌∙◌}
+use Rattle.std.proofs.Common.{inl, inr, arith, sym, ap, subst, ◌∙◌}
 use Rattle.x86_opcode.specs.declared.Opcode.{Opcode}
 use Rattle.x86_operand.specs.declared.register.RegisterBank.{RegisterBank}
-use Rattle.x86_operand.specs.Kind.{Kind, WithoutModRM, InRegister, InMemory, VectorIndexed, memory_kind}
+use Rattle.x86_operand.specs.Kind.{Kind, WithoutModRM, InRegister, InMemory, VectorIndexed}
 use Rattle.x86_operand.specs.Meaning.{OperandMeaning, register, memory, Meaning}
 use Rattle.vex_rows.specs.declared.entry.Entry.{Entry}
 use Rattle.vex_rows.specs.FormRows.{form_row, gathers}
@@ -181,8 +181,7 @@ module _ (entry : Entry) (l : ℕ) (kind : Kind) (group : Option ℕ) where
       let row = row_at entry false l kind group in
       let gives = can_give (row_at entry true l kind group) m bytes
       (row-chosen (row_at entry true l kind group) chosen) e in
-      let without = chosen_without allowed chosen in
-      (
+      let without = chosen_without allowed chosen in (
         bytes_of row (candidate row m),
         sym (standard_given row m (bytes_of row (candidate row m)) (row-chosen row without)
             (exists_chosen false without) (can_give_without m h gives) refl),

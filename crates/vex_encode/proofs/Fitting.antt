@@ -4,7 +4,7 @@ use Rattle.std.specs.List.{list_any}
 use Rattle.std.proofs.Common.{zero, suc, get_or, add-one, arith}
 use Rattle.x86_operand.specs.declared.register.RegisterBank.{RegisterBank}
 use Rattle.x86_operand.specs.Kind.{Kind, WithoutModRM, InRegister, InMemory, VectorIndexed}
-use Rattle.x86_operand.specs.Meaning.{OperandMeaning, register, memory, nothing}
+use Rattle.x86_operand.specs.Meaning.{OperandMeaning, memory, nothing}
 use Rattle.vex_rows.specs.Row.{is_memory}
 use Rattle.vex_forms.specs.declared.slot.Slot.{Slot}
 use Rattle.vex_forms.specs.declared.slot.Slot.TheVariants.{G, V, E, U8, I8, R4}

@@ -180,7 +180,8 @@ fn standard_by_group(
     None
 }
 
-/// The standard spelling by the first row of an entry at that W and L that can give an instruction.
+/// The standard spelling by the first row of an entry at that W and L that can give an instruction. There is none where
+/// the first operand can't stand at the first slot.
 #[inline(always)]
 fn standard_at(
     entry: &Entry,
@@ -228,8 +229,8 @@ fn standard_by_l(
     standard_at(entry, w, true, memory, bank, instruction)
 }
 
-/// Whether a row of an entry with W 1 may give an instruction that none with W 0 can: W 0 isn't allowed, or the form goes
-/// by W.
+/// Whether a row of an entry with W 1 may give an instruction that none with W 0 can: W 0 isn't allowed, or the form
+/// goes by W.
 #[inline(always)]
 fn wants_w(entry: &Entry) -> bool
     ensures { result ≡ (not (allows entry.now.w false) || goes_by_w entry.now.form) }

@@ -56,9 +56,9 @@ fn first_slots(slots: (Slot, Slot, Slot, Slot), count: u8) -> ArrayVec<Slot, 4>
     first
 }
 
-/// The shape that has the slots of an entry's rows, and the bank of the index of an address. The shape is the rows' own,
-/// and where the opcode says the banks, that of the form at the W or L with these banks. The index is a vector register
-/// where the form gathers, and of bank `Q` elsewhere.
+/// The shape that has the slots of an entry's rows, and the bank of the index of an address. The shape is the rows'
+/// own, and where the opcode says the banks, that of the form at the W or L with these banks. The index is a vector
+/// register where the form gathers, and of bank `Q` elsewhere.
 #[inline(always)]
 fn shape_and_index_bank(
     entry: &Entry,
@@ -86,7 +86,7 @@ fn shape_and_index_bank(
 }
 
 /// The first slot of the rows of an entry at that W, L and place of the operand E, `None` where they have no operands.
-/// It is there before a `Choice` is made, so that most rows that an instruction excludes are told at once.
+/// It takes no `Choice`, so that most rows which an instruction excludes are told before one is made.
 #[inline(always)]
 pub fn first_slot(entry: &Entry, w: bool, l: bool, memory: bool) -> Option<Slot>
     ensures { (group : Option ℕ) → result ≡ first_of (slots (row_at entry.now w (if l then 1 else 0)

@@ -1,7 +1,7 @@
 -- The notes that a sink keeps are those on the bytes that a decode takes.
 use Rattle.std.proofs.Common.{◌≡◌, ℕ, ◌≤◌, Bool, true, false, List, [], ◌++◌, length, take, Some, None, Ok, Err, sym}
 use Rattle.std.proofs.Common.{ap, ◌∙◌, refl, arith, subst, length-append}
-use Rattle.std.specs.Prelude.{IsTrue, IsSome, if◌then◌else◌, OnOk, IfOk, IfErr, Option, Result}
+use Rattle.std.specs.Prelude.{IsTrue, IsSome, if◌then◌else◌, OnOk, IfErr, Result}
 use Rattle.std.proofs.Math.Seq.{take-append_seam}
 use Rattle.std.specs.Io.KnownBytes.{prepend_known}
 use Rattle.x86_operand.specs.declared.error.DecodeError.{DecodeError}
@@ -15,19 +15,13 @@ use Rattle.x86_reader.specs.SliceReader.{SliceReader, slice_state}
 use Rattle.x86_reader.specs.Sink.{Records, TripleList, list_state}
 use Rattle.vex_rows.specs.Row.{Row, mark_of, opcode_of}
 use Rattle.vex_forms.specs.FormWalk.{taken}
-use Rattle.vex_decode.specs.Spelling.{Spells, Syntax}
+use Rattle.vex_decode.specs.Spelling.{Syntax}
 use Rattle.vex_decode.specs.Walk.{walk}
 use Rattle.vex_decode.specs.Blocked.{blocked, refused}
 use Rattle.vex_decode.specs.Notes.{NoteAt, notes}
 use Rattle.vex_decode.specs.Decoding.{TakesInstruction, BlocksSlice, NotesTaken}
 use Rattle.vex_decode.specs.Laws.{BlockedOrBegun, Decodes, ReadingIsSpelling}
-use Rattle.vex_encode.specs.Canon.{canon}
-use Rattle.x86_operand.specs.Errors.{decode_error_name}
-use Rattle.vex_tool.specs.Ends.{Writes}
-use Rattle.vex_tool.specs.ErrorLine.{error_line}
-use Rattle.vex_tool.specs.Laws.{LineOfError, LineOfSpelling}
 use Rattle.vex_tool.specs.NoteLines.{bytes_taken, number_read, number_taken}
-use Rattle.vex_tool.specs.ResultLine.{instruction_line, result_line}
 
 -- a new list keeps what it was given, where that isn't more than it can keep
 pub kept-all : (old new : TripleList FieldDescription) (given : List NoteAt) → old.kept ≡ [] → IsTrue old.whole
@@ -163,26 +157,3 @@ refused-taken settings bytes error before after left blocks = (
   ap (blocked settings) (sym left)
       ∙ blocks (record before { since_mark = 0 }) after refl refl,
 )
-
--- some bytes spell an instruction that was decoded
-pub spelled-taken : (settings : List Bool) (bytes : List ℕ) (decoded : Result Decoded DecodeError)
-    → IfOk decoded (λ d. Decodes settings bytes d.meaning d.len)
-    → IfOk decoded (λ d. (front : List ℕ) × Spells front d.meaning)
-spelled-taken settings bytes (Ok d) is = (take d.len bytes, is.spells)
-spelled-taken settings bytes (Err error) is = tt
-
--- what is written of a decode's answer is the result line
-pub line-decoded : LineOfSpelling → LineOfError → (settings : List Bool) (bytes : List ℕ)
-    (decoded : Result Decoded DecodeError) {T E : Type 0} (result : Result T E) (old new : Option (List ℕ))
-    (before after : ℕ)
-    → IfOk decoded (λ d. Decodes settings bytes d.meaning d.len)
-    → IfErr decoded (λ error. (n : ℕ) × (blocked settings bytes ≡ Some (error, n)))
-    → IfOk decoded (λ d. (canonical : List ℕ) × (canon d.meaning ≡ Some canonical)
-    × Writes result old new before after (instruction_line d.len d.meaning canonical))
-    → IfErr decoded (λ error. Writes result old new before after (error_line (decode_error_name error)))
-    → Writes result old new before after (result_line settings bytes)
-line-decoded lines errors settings bytes (Ok d) result old new before after begun blocks written named =
-    rw (lines settings bytes d.len d.meaning written.0 begun.not_blocked begun.within begun.spells written.1)
-    written.2
-line-decoded lines errors settings bytes (Err error) result old new before after begun blocks written named =
-    rw (errors settings bytes error blocks.0 blocks.1) named

@@ -1,25 +1,17 @@
 //! The notes on the bytes of some code.
 
-ghost use Rattle.std.specs.Prelude.{◌≡◌, ◌<◌, ℕ, List, IfErr, IfOk, Some, flat_map};
-ghost use Rattle.x86_operand.specs.Errors.{decode_error_name};
+ghost use Rattle.std.specs.Prelude.{◌≡◌, ℕ, IfErr, IfOk, Some, flat_map};
 ghost use Rattle.vex_decode.specs.Blocked.{blocked};
 ghost use Rattle.vex_decode.specs.Laws.{Decodes};
 ghost use Rattle.vex_decode.specs.Notes.{notes};
-ghost use Rattle.vex_decode.specs.Spelling.{Spells};
-ghost use Rattle.vex_encode.specs.Canon.{canon};
 ghost use Rattle.vex_tool.specs.Ends.{Writes};
-ghost use Rattle.vex_tool.specs.ErrorLine.{error_line};
 ghost use Rattle.vex_tool.specs.NoteLines.{bytes_taken, note_line, note_lines};
-ghost use Rattle.vex_tool.specs.ResultLine.{instruction_line};
 
 use crate::ends::{Failed, Sink};
 use crate::laws::result_lines;
-use crate::line_text::{LineText, error_text, instruction_text, note_text_line};
-use std::marker::Brand;
-use std::sync::ledger::{Blank, Ledger};
-use step_counter::Steps;
+use crate::line_text::{LineText, note_text_line};
+use crate::result_line::{write_instruction, write_refused};
 use vex_decode::{Decoder, blocked_or_begun, reading_is_spelling};
-use vex_encode::{Spelling, encode_shortest};
 use x86_operand::{DecodeError, FieldDescription, Instruction};
 use x86_reader::{ListSink, U8Reader};
 use x86_settings::InstDecoder;
@@ -65,46 +57,6 @@ fn write_note_lines<K: Sink>(
     Ok(())
 }
 
-// The canonical bytes of an instruction that some bytes spell, with a counter of their own.
-fn canonical_bytes<L: Ledger>(instruction: &Instruction, blank: Blank) -> Spelling
-    requires spelled { (bytes : List ℕ) × Spells bytes instruction.now.meaning }
-    requires name { blank.name ≡ L.name }
-    requires parts { blank.parts ≡ L.parts }
-    requires some { 0 < blank.parts }
-    ensures { canon instruction.now.meaning ≡ Some result }
-{
-    match encode_shortest(instruction, &mut Steps::<L>::new(blank)) {
-        Ok(spelling) => spelling,
-        Err(_) => unreachable!(),
-    }
-}
-
-// Writes the result line of what a decode answered, in one write.
-fn write_decoded<K: Sink>(
-    decoded: Result<Instruction, DecodeError>,
-    text: &mut LineText,
-    sink: &mut K,
-) -> Result<(), Failed>
-    requires { IfOk decoded (λ decoded. (bytes : List ℕ) × Spells bytes decoded.meaning) }
-    ensures begun { IfOk decoded (λ decoded. (canonical : List ℕ) × (canon decoded.meaning ≡ Some canonical)
-        × Writes result (K.text sink.old) (K.text sink.new) (K.faults sink.old) (K.faults sink.new)
-        (instruction_line decoded.len decoded.meaning canonical)) }
-    ensures refused { IfErr decoded (λ error. Writes result (K.text sink.old) (K.text sink.new) (K.faults sink.old)
-        (K.faults sink.new) (error_line (decode_error_name error))) }
-{
-    match decoded {
-        Ok(instruction) => {
-            let spelling = canonical_bytes::<Brand>(&instruction, Blank::new(1));
-            instruction_text(text, &instruction, &spelling);
-            sink.write_all(text.as_str().as_bytes())
-        }
-        Err(error) => {
-            error_text(text, error.name());
-            sink.write_all(text.as_str().as_bytes())
-        }
-    }
-}
-
 /// Decodes these bytes under settings, and writes a line for each note and then the result line, in one write each.
 /// What the list holds plays no part. `Failed` where a write of the sink fails.
 pub fn write_notes<K: Sink>(
@@ -121,5 +73,8 @@ pub fn write_notes<K: Sink>(
     result_lines();
     let decoded = list_notes(settings, bytes, list);
     write_note_lines(list, text, sink)?;
-    write_decoded(decoded, text, sink)
+    match decoded {
+        Ok(instruction) => write_instruction(&instruction, text, sink),
+        Err(error) => write_refused(error, text, sink),
+    }
 }

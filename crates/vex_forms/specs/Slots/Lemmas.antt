@@ -1,6 +1,6 @@
 -- The slots of every row fit its steps.
 use Rattle.std.specs.Prelude.{◌≡◌, refl, ℕ, ◌≤◌, nat_le, length, Bool, true, false, not, ◌&&◌, ◌||◌, if◌then◌else◌}
-use Rattle.std.specs.Prelude.{List, [], ◌∷◌, ◌++◌, find, flat_map, Option, Some, None}
+use Rattle.std.specs.Prelude.{List, [], ◌∷◌, ◌++◌, find, flat_map, Option, Some}
 use Rattle.std.proofs.Common.{ap, ap₂}
 use Rattle.x86_opcode.specs.declared.Opcode.{Opcode}
 use Rattle.vex_rows.specs.declared.entry.Entry.{Entry}
