@@ -29,7 +29,7 @@ pub fn append_number(buffer: &mut ArrayString<MAX_TEXT>, number: usize)
     buffer.push_str(digits.format(number));
 }
 
-// Appends a number of one byte in decimal.
+/// Appends a number of one byte in decimal.
 fn append_byte(buffer: &mut ArrayString<MAX_TEXT>, number: u8)
     requires { array_string_len buffer.old + 3 ≤ MAX_TEXT }
     ensures written { buffer.new.bytes ≡ buffer.old.bytes ++ decimal number }
@@ -39,7 +39,7 @@ fn append_byte(buffer: &mut ArrayString<MAX_TEXT>, number: u8)
     buffer.push_str(digits.format(number));
 }
 
-// Appends a signed number in decimal.
+/// Appends a signed number in decimal.
 fn append_signed(buffer: &mut ArrayString<MAX_TEXT>, number: i32)
     requires { array_string_len buffer.old + 11 ≤ MAX_TEXT }
     ensures written { buffer.new.bytes ≡ buffer.old.bytes ++ signed_decimal number }
@@ -69,7 +69,7 @@ pub fn append_register(buffer: &mut ArrayString<MAX_TEXT>, reg: RegSpec)
     }
 }
 
-// Appends the base of an address, `-` for none.
+/// Appends the base of an address, `-` for none.
 fn append_base(buffer: &mut ArrayString<MAX_TEXT>, base: Option<RegSpec>)
     requires { array_string_len buffer.old + 4 ≤ MAX_TEXT }
     ensures written { buffer.new.bytes ≡ buffer.old.bytes ++ base_text base }
@@ -81,7 +81,7 @@ fn append_base(buffer: &mut ArrayString<MAX_TEXT>, base: Option<RegSpec>)
     }
 }
 
-// Appends the index of an address with its scale, `-` for none.
+/// Appends the index of an address with its scale, `-` for none.
 fn append_index(buffer: &mut ArrayString<MAX_TEXT>, index: Option<Index>)
     requires { array_string_len buffer.old + 8 ≤ MAX_TEXT }
     ensures written { buffer.new.bytes ≡ buffer.old.bytes ++ index_text index }
@@ -97,7 +97,7 @@ fn append_index(buffer: &mut ArrayString<MAX_TEXT>, index: Option<Index>)
     }
 }
 
-// Appends an address: `m`, its base, its index and its displacement.
+/// Appends an address: `m`, its base, its index and its displacement.
 fn append_address(buffer: &mut ArrayString<MAX_TEXT>, address: &Address)
     requires { array_string_len buffer.old + 26 ≤ MAX_TEXT }
     ensures written { buffer.new.bytes ≡ buffer.old.bytes ++ operand_text (memory address.now) }
@@ -111,7 +111,7 @@ fn append_address(buffer: &mut ArrayString<MAX_TEXT>, address: &Address)
     append_signed(buffer, address.disp);
 }
 
-// Appends an operand.
+/// Appends an operand.
 fn append_operand(buffer: &mut ArrayString<MAX_TEXT>, operand: &Operand)
     requires { array_string_len buffer.old + 26 ≤ MAX_TEXT }
     ensures written { buffer.new.bytes ≡ buffer.old.bytes ++ operand_text (operand_meaning operand.now) }
@@ -136,7 +136,7 @@ fn append_operand(buffer: &mut ArrayString<MAX_TEXT>, operand: &Operand)
     }
 }
 
-// Appends the operands of an instruction, a space before each.
+/// Appends the operands of an instruction, a space before each.
 fn append_operands(buffer: &mut ArrayString<MAX_TEXT>, instruction: &Instruction)
     requires { array_string_len buffer.old + 108 ≤ MAX_TEXT }
     ensures written { buffer.new.bytes ≡ buffer.old.bytes ++ operands_text instruction.now.meaning.operands }
@@ -148,7 +148,7 @@ fn append_operands(buffer: &mut ArrayString<MAX_TEXT>, instruction: &Instruction
     }
 }
 
-// Appends the EVEX mark, where there is one.
+/// Appends the EVEX mark, where there is one.
 fn append_mark(buffer: &mut ArrayString<MAX_TEXT>, evex: bool)
     requires { array_string_len buffer.old + 5 ≤ MAX_TEXT }
     ensures written { buffer.new.bytes ≡ buffer.old.bytes ++ mark_text evex }
@@ -169,8 +169,8 @@ pub fn append_name(buffer: &mut ArrayString<MAX_TEXT>, opcode: Opcode)
     buffer.push_str(opcode.name());
 }
 
-// The number of bytes of the memory operand: 0 where there is none, and 63 where it isn't known, for which
-// `bytes_size` is `None`.
+/// The number of bytes of the memory operand: 0 where there is none, and 63 where it isn't known, for which
+/// `bytes_size` is `None`.
 fn size_of(instruction: &Instruction) -> u8
     ensures { result ≡ unwrap_or instruction.now.meaning.size 0 }
 {

@@ -19,7 +19,7 @@ use vex_encode::laws::recode_again;
 use vex_encode::{Spelling, encode_shortest};
 use x86_operand::{EncodeError, Instruction};
 
-// The canonical bytes of an instruction's meaning, with a counter of their own.
+/// The canonical bytes of an instruction's meaning, with a counter of their own.
 fn shortest<L: Ledger>(instruction: &Instruction, blank: Blank) -> Result<Spelling, EncodeError>
     requires name { blank.name ≡ L.name }
     requires parts { blank.parts ≡ L.parts }

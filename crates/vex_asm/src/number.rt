@@ -6,7 +6,7 @@ ghost use Rattle.vex_asm.specs.Parsed.{number_of, digits_on, byte_of, signed_of,
 /// What numbers in a text are below: 10^10, more than each number that has a place in a meaning.
 const LIMIT: u64 = 10_000_000_000;
 
-// The number of digits, where it is below 10^10.
+/// The number of digits, where it is below 10^10.
 fn digits(bytes: &[u8]) -> Option<u64>
     ensures value { result ≡ digits_on 0 bytes.now }
     ensures below { IfSome result (λ number. number < LIMIT) }
@@ -41,7 +41,7 @@ pub fn byte(bytes: &[u8]) -> Option<u8>
     u8::try_from(number(bytes)?).ok()
 }
 
-// The signed number of a text, where it is between -10^10 and 10^10.
+/// The signed number of a text, where it is between -10^10 and 10^10.
 #[tactic(auto, unfolding(crate::specs::Parsed::signed_of))]
 fn signed(bytes: &[u8]) -> Option<i64>
     ensures { result ≡ signed_of bytes.now }

@@ -8,7 +8,7 @@ ghost use Rattle.vex_asm.specs.Parsed.{address_of, begun_of, operand_of, size_of
 use crate::number::{byte, displacement, signed_byte};
 use x86_operand::{Address, Index, MemoryAccessSize, Operand, RegSpec, RegisterBank};
 
-// The bank of a letter.
+/// The bank of a letter.
 fn bank(letter: u8) -> Option<RegisterBank>
     ensures { result ≡ bank_of letter }
 {
@@ -22,7 +22,7 @@ fn bank(letter: u8) -> Option<RegisterBank>
     }
 }
 
-// The register of a letter and a number.
+/// The register of a letter and a number.
 #[tactic(auto, unfolding(crate::specs::Parsed::lettered_of))]
 fn lettered(bytes: &[u8]) -> Option<RegSpec>
     ensures { result ≡ lettered_of bytes.now }
@@ -37,7 +37,7 @@ fn lettered(bytes: &[u8]) -> Option<RegSpec>
     }
 }
 
-// The register of a text.
+/// The register of a text.
 #[tactic(auto, unfolding(crate::specs::Parsed::register_of))]
 fn register(bytes: &[u8]) -> Option<RegSpec>
     ensures { result ≡ register_of bytes.now }
@@ -48,7 +48,7 @@ fn register(bytes: &[u8]) -> Option<RegSpec>
     lettered(bytes)
 }
 
-// What stands before and after the first byte `at`.
+/// What stands before and after the first byte `at`.
 fn cut(bytes: &[u8], at: u8) -> Option<(&[u8], &[u8])>
     ensures { option_map (λ p. (p.0.now, p.1.now)) result ≡ cut at bytes.now }
 {
@@ -60,7 +60,7 @@ fn cut(bytes: &[u8], at: u8) -> Option<(&[u8], &[u8])>
     None
 }
 
-// The base of an address.
+/// The base of an address.
 #[tactic(auto, unfolding(crate::specs::Parsed::base_of))]
 fn base(bytes: &[u8]) -> Option<Option<RegSpec>>
     ensures { result ≡ base_of bytes.now }
@@ -71,7 +71,7 @@ fn base(bytes: &[u8]) -> Option<Option<RegSpec>>
     Some(Some(register(bytes)?))
 }
 
-// An index register and its scale.
+/// An index register and its scale.
 #[tactic(auto, unfolding(crate::specs::Parsed::scaled_of))]
 fn scaled(bytes: &[u8]) -> Option<Index>
     ensures { result ≡ scaled_of bytes.now }
@@ -82,7 +82,7 @@ fn scaled(bytes: &[u8]) -> Option<Index>
     Some(Index { reg, scale })
 }
 
-// The index of an address.
+/// The index of an address.
 #[tactic(auto, unfolding(crate::specs::Parsed::index_of))]
 fn index(bytes: &[u8]) -> Option<Option<Index>>
     ensures { result ≡ index_of bytes.now }
@@ -93,7 +93,7 @@ fn index(bytes: &[u8]) -> Option<Option<Index>>
     Some(Some(scaled(bytes)?))
 }
 
-// An address behind its `m`.
+/// An address behind its `m`.
 #[tactic(auto, unfolding(crate::specs::Parsed::address_of))]
 fn address(bytes: &[u8]) -> Option<Address>
     ensures { result ≡ address_of bytes.now }
@@ -106,7 +106,7 @@ fn address(bytes: &[u8]) -> Option<Address>
     Some(Address { base, index, disp })
 }
 
-// The immediate, the address or the register of a word, by its first letter.
+/// The immediate, the address or the register of a word, by its first letter.
 #[tactic(auto, unfolding(crate::specs::Parsed::begun_of))]
 fn begun(word: &[u8]) -> Option<Operand>
     ensures { option_map operand_meaning result ≡ begun_of word.now }

@@ -26,7 +26,7 @@ struct Rest {
     size: Option<MemoryAccessSize>,
 }
 
-// The opcode of a name.
+/// The opcode of a name.
 fn opcode(name: &[u8]) -> Option<Opcode>
     ensures found { IfSome result (λ opcode. opcode_name opcode ≡ name.now) }
     ensures only { (opcode : Opcode) → opcode_name opcode ≡ name.now → result ≡ Some opcode }
@@ -37,7 +37,7 @@ fn opcode(name: &[u8]) -> Option<Opcode>
     }
 }
 
-// The opcode of the first word, and whether the EVEX mark stands before its name.
+/// The opcode of the first word, and whether the EVEX mark stands before its name.
 fn head(word: &[u8]) -> Option<(bool, Opcode)>
     ensures found { IfSome result (λ head. mark_text head.0 ++ opcode_name head.1 ≡ word.now) }
     ensures only { (evex : Bool) (opcode : Opcode) → mark_text evex ++ opcode_name opcode ≡ word.now
@@ -49,7 +49,7 @@ fn head(word: &[u8]) -> Option<(bool, Opcode)>
     }
 }
 
-// The operands and the memory size of the words behind the name.
+/// The operands and the memory size of the words behind the name.
 fn behind_name(bytes: &[u8]) -> Option<Rest>
     ensures value { option_map (λ p. (map operand_meaning (take p.count p.operands), p.size)) result
         ≡ few (rest_of (line_parts bytes.now)) }
@@ -76,7 +76,7 @@ fn behind_name(bytes: &[u8]) -> Option<Rest>
     })
 }
 
-// The instruction that a line writes, with no error to tell.
+/// The instruction that a line writes, with no error to tell.
 fn instruction_of(line: &[u8]) -> Option<Instruction>
     ensures found { IfSome result (λ read. (read.len ≡ 0) × IsTextOf line.now read.meaning) }
     ensures only { (m : Meaning) → IsTextOf line.now m → result ≡ Some (record { meaning = m; len = 0 }) }

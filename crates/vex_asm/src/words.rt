@@ -11,7 +11,7 @@ pub fn is_blank(byte: u8) -> bool
     matches!(byte, b' ' | b'\t' | b'\r')
 }
 
-// The line from its first word on.
+/// The line from its first word on.
 fn skip_blanks(bytes: &[u8]) -> &[u8]
     ensures parts { line_parts result.now ≡ line_parts bytes.now }
     ensures short { length result.now ≤ length bytes.now }
@@ -25,7 +25,7 @@ fn skip_blanks(bytes: &[u8]) -> &[u8]
     &bytes[bytes.len()..]
 }
 
-// The word at the front, and what follows it.
+/// The word at the front, and what follows it.
 fn first_word(bytes: &[u8]) -> (&[u8], &[u8])
     requires filled { 0 < length bytes.now }
     requires first { is_blank (get_or bytes.now 0 0) ≡ false }

@@ -28,35 +28,35 @@ macro_rules! on_lanes {
     }};
 }
 
-// The sums of the lanes, of 16 bytes.
+/// The sums of the lanes, of 16 bytes.
 pub(crate) fn add_16(lane: Lane, v: u8x16, e: u8x16) -> u8x16
     ensures { result ≡ by_lanes sum_in lane 16 v e }
 {
     by_lanes!(lane, v, e, u16x8, u32x4, u64x2, v + e, (v + e))
 }
 
-// The sums of the lanes, of 32 bytes.
+/// The sums of the lanes, of 32 bytes.
 pub(crate) fn add_32(lane: Lane, v: u8x32, e: u8x32) -> u8x32
     ensures { result ≡ by_lanes sum_in lane 32 v e }
 {
     by_lanes!(lane, v, e, u16x16, u32x8, u64x4, v + e, (v + e))
 }
 
-// The lanes of v less those of e, of 16 bytes.
+/// The lanes of v less those of e, of 16 bytes.
 pub(crate) fn subtract_16(lane: Lane, v: u8x16, e: u8x16) -> u8x16
     ensures { result ≡ by_lanes difference_in lane 16 v e }
 {
     by_lanes!(lane, v, e, u16x8, u32x4, u64x2, v - e, (v - e))
 }
 
-// The lanes of v less those of e, of 32 bytes.
+/// The lanes of v less those of e, of 32 bytes.
 pub(crate) fn subtract_32(lane: Lane, v: u8x32, e: u8x32) -> u8x32
     ensures { result ≡ by_lanes difference_in lane 32 v e }
 {
     by_lanes!(lane, v, e, u16x16, u32x8, u64x4, v - e, (v - e))
 }
 
-// Bytes FF where the lanes are equal and 0 elsewhere, of 16 bytes.
+/// Bytes FF where the lanes are equal and 0 elsewhere, of 16 bytes.
 pub(crate) fn equal_16(lane: Lane, v: u8x16, e: u8x16) -> u8x16
     ensures { result ≡ by_lanes equality_in lane 16 v e }
 {
@@ -72,7 +72,7 @@ pub(crate) fn equal_16(lane: Lane, v: u8x16, e: u8x16) -> u8x16
     )
 }
 
-// Bytes FF where the lanes are equal and 0 elsewhere, of 32 bytes.
+/// Bytes FF where the lanes are equal and 0 elsewhere, of 32 bytes.
 pub(crate) fn equal_32(lane: Lane, v: u8x32, e: u8x32) -> u8x32
     ensures { result ≡ by_lanes equality_in lane 32 v e }
 {
@@ -88,28 +88,28 @@ pub(crate) fn equal_32(lane: Lane, v: u8x32, e: u8x32) -> u8x32
     )
 }
 
-// The bits that are set in both.
+/// The bits that are set in both.
 pub(crate) fn and<const N: usize>(v: Simd<u8, N>, e: Simd<u8, N>) -> Simd<u8, N>
     ensures { result ≡ zip2 bit_and v.entry e.entry }
 {
     v & e
 }
 
-// The bits that are set in e and not in v.
+/// The bits that are set in e and not in v.
 pub(crate) fn and_not<const N: usize>(v: Simd<u8, N>, e: Simd<u8, N>) -> Simd<u8, N>
     ensures { result ≡ zip2 and_not v.entry e.entry }
 {
     !v & e
 }
 
-// The bits that are set in one or in both.
+/// The bits that are set in one or in both.
 pub(crate) fn or<const N: usize>(v: Simd<u8, N>, e: Simd<u8, N>) -> Simd<u8, N>
     ensures { result ≡ zip2 bit_or v.entry e.entry }
 {
     v | e
 }
 
-// The bits that are set in one alone.
+/// The bits that are set in one alone.
 pub(crate) fn exclusive_or<const N: usize>(v: Simd<u8, N>, e: Simd<u8, N>) -> Simd<u8, N>
     ensures { result ≡ zip2 bit_xor v.entry e.entry }
 {

@@ -104,7 +104,7 @@ impl<'a> Machine<'a> {
         self.q = [0; REGISTERS];
     }
 
-    // The number in a general register of 64 bits, and `None` for any other register.
+    /// The number in a general register of 64 bits, and `None` for any other register.
     #[tactic(auto, unfolding(crate::specs::Machine::general))]
     fn general(&self, reg: RegSpec) -> Option<u64>
         ensures { result ≡ general self.now.q reg.bank reg.num }
@@ -116,7 +116,7 @@ impl<'a> Machine<'a> {
         }
     }
 
-    // What the base adds to a place.
+    /// What the base adds to a place.
     #[tactic(auto, unfolding(crate::specs::Machine::base_part))]
     fn base_part(&self, base: Option<RegSpec>) -> Option<u64>
         ensures { result ≡ base_part self.now.q base }
@@ -127,7 +127,7 @@ impl<'a> Machine<'a> {
         }
     }
 
-    // What the scaled index adds to a place, modulo 2^64.
+    /// What the scaled index adds to a place, modulo 2^64.
     #[tactic(auto, unfolding(crate::specs::Machine::index_part))]
     fn index_part(&self, index: Option<Index>) -> Option<u64>
         ensures { result ≡ option_map (λ n. n % 2 ^ 64) (index_part self.now.q index) }
@@ -141,7 +141,8 @@ impl<'a> Machine<'a> {
         }
     }
 
-    // The place that an address means, modulo 2^64, and `None` where base or index isn't a general register of 64 bits.
+    /// The place that an address means, modulo 2^64, and `None` where base or index isn't a general register of 64
+    /// bits.
     #[tactic(auto, unfolding(crate::specs::Machine::place_of))]
     pub(crate) fn place_of(&self, address: Address) -> Option<u64>
         ensures { result ≡ place_of self.now.q address }
@@ -155,7 +156,7 @@ impl<'a> Machine<'a> {
         )
     }
 
-    // Whether so many bytes from the place on lie wholly in the memory.
+    /// Whether so many bytes from the place on lie wholly in the memory.
     pub(crate) fn has_room(&self, place: u64, size: u64) -> bool
         ensures { IsTrue result ↔ (place + size ≤ length self.now.memory) }
     {
@@ -163,7 +164,7 @@ impl<'a> Machine<'a> {
         place <= len && size <= len - place
     }
 
-    // The bytes from the place on.
+    /// The bytes from the place on.
     pub(crate) fn load<const N: usize>(&self, place: usize) -> Simd<u8, N>
         requires { place + N ≤ length self.now.memory }
         ensures { result ≡ chunk place N self.now.memory }
@@ -171,7 +172,7 @@ impl<'a> Machine<'a> {
         Simd::<u8, N>::from_slice(&self.memory[place..])
     }
 
-    // Writes these bytes from the place on.
+    /// Writes these bytes from the place on.
     pub(crate) fn store<const N: usize>(&mut self, place: usize, value: Simd<u8, N>)
         requires { place + N ≤ length self.old.memory }
         ensures { self.new ≡ record self.old { memory = put_chunk place self.old.memory value.entry } }
@@ -179,7 +180,7 @@ impl<'a> Machine<'a> {
         store_at(self.memory, place, value);
     }
 
-    // The low bytes of a vector register.
+    /// The low bytes of a vector register.
     pub(crate) fn low<const N: usize>(&self, i: u8) -> Simd<u8, N>
         requires i { i < 16 }
         requires size { N ≤ 32 }
@@ -189,7 +190,7 @@ impl<'a> Machine<'a> {
         Simd::<u8, N>::from_slice(vector)
     }
 
-    // Changes a vector register to these bytes and then zeros.
+    /// Changes a vector register to these bytes and then zeros.
     pub(crate) fn set_low<const N: usize>(&mut self, i: u8, value: Simd<u8, N>)
         requires i { i < 16 }
         requires size { N ≤ 32 }
@@ -200,14 +201,14 @@ impl<'a> Machine<'a> {
         self.set_vector(i, &bytes);
     }
 
-    // Sets the bytes from 16 on of each vector register to 0.
+    /// Sets the bytes from 16 on of each vector register to 0.
     pub(crate) fn zero_upper(&mut self)
         ensures { self.new ≡ record self.old { vectors = map upper_cleared self.old.vectors } }
     {
         clear_uppers(&mut self.vectors);
     }
 
-    // Sets all bytes of each vector register to 0.
+    /// Sets all bytes of each vector register to 0.
     pub(crate) fn zero_all(&mut self)
         ensures { self.new ≡ record self.old { vectors = replicate 16 (replicate 32 0) } }
     {
@@ -215,7 +216,7 @@ impl<'a> Machine<'a> {
     }
 }
 
-// Sets the bytes from 16 on of each vector to 0.
+/// Sets the bytes from 16 on of each vector to 0.
 fn clear_uppers(vectors: &mut [[u8; VECTOR_BYTES]])
     ensures { vectors.new ≡ map upper_cleared vectors.old }
 {
@@ -224,7 +225,7 @@ fn clear_uppers(vectors: &mut [[u8; VECTOR_BYTES]])
     }
 }
 
-// Sets all bytes of each vector to 0.
+/// Sets all bytes of each vector to 0.
 fn clear_all(vectors: &mut [[u8; VECTOR_BYTES]])
     ensures { vectors.new ≡ map (λ v. replicate 32 0) vectors.old }
 {
@@ -233,7 +234,7 @@ fn clear_all(vectors: &mut [[u8; VECTOR_BYTES]])
     }
 }
 
-// The vector with its bytes from 16 on 0.
+/// The vector with its bytes from 16 on 0.
 fn upper_cleared(vector: &[u8; VECTOR_BYTES]) -> [u8; VECTOR_BYTES]
     ensures { result ≡ upper_cleared vector.now }
 {
@@ -243,7 +244,7 @@ fn upper_cleared(vector: &[u8; VECTOR_BYTES]) -> [u8; VECTOR_BYTES]
     bytes
 }
 
-// Writes these bytes from the place on. A part of a machine's memory is written through a slice of its own.
+/// Writes these bytes from the place on. A part of a machine's memory is written through a slice of its own.
 fn store_at<const N: usize>(memory: &mut [u8], place: usize, value: Simd<u8, N>)
     requires { place + N ≤ length memory.old }
     ensures { memory.new ≡ put_chunk place memory.old value.entry }

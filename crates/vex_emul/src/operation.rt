@@ -40,7 +40,7 @@ pub enum Operation {
     Xor,
 }
 
-// The result on operands of 16 bytes.
+/// The result on operands of 16 bytes.
 #[tactic(auto, unfolding(crate::specs::Operation::result_of))]
 pub(crate) fn result_16(operation: Operation, v: u8x16, e: u8x16) -> u8x16
     ensures { result ≡ result_of operation 16 v e }
@@ -56,7 +56,7 @@ pub(crate) fn result_16(operation: Operation, v: u8x16, e: u8x16) -> u8x16
     }
 }
 
-// The result on operands of 32 bytes.
+/// The result on operands of 32 bytes.
 #[tactic(auto, unfolding(crate::specs::Operation::result_of))]
 pub(crate) fn result_32(operation: Operation, v: u8x32, e: u8x32) -> u8x32
     ensures { result ≡ result_of operation 32 v e }

@@ -45,8 +45,8 @@ pub struct Halt {
     pub cause: HaltCause,
 }
 
-// Runs the instruction at the front of the bytes, and answers the number of its bytes. Where it halts, nothing is
-// changed.
+/// Runs the instruction at the front of the bytes, and answers the number of its bytes. Where it halts, nothing is
+/// changed.
 fn step(machine: &mut Machine, decoder: &InstDecoder, bytes: &[u8]) -> Result<usize, HaltCause>
     ensures done { IfOk result (λ len. step decoder.now machine.old bytes.now ≡ Ok (machine.new, len)) }
     ensures some { IfOk result (λ len. 1 ≤ len) }

@@ -27,7 +27,7 @@ pub enum Kind {
     Combines(Operation),
 }
 
-// The kind of instruction that the opcode names, `None` where it isn't one of the eighteen.
+/// The kind of instruction that the opcode names, `None` where it isn't one of the eighteen.
 #[tactic(auto, unfolding(crate::specs::Subset::kind_of))]
 fn kind_of(opcode: Opcode) -> Option<Kind>
     ensures { result ≡ kind_of opcode }
@@ -58,7 +58,7 @@ fn kind_of(opcode: Opcode) -> Option<Kind>
     }
 }
 
-// A vector register that the machine has: whether its operand is wide, and its number.
+/// A vector register that the machine has: whether its operand is wide, and its number.
 #[tactic(auto, unfolding(crate::specs::Subset::vector_in))]
 fn vector_of(reg: RegSpec) -> Option<(bool, u8)>
     ensures value { result ≡ vector_in reg.bank reg.num }
@@ -72,7 +72,7 @@ fn vector_of(reg: RegSpec) -> Option<(bool, u8)>
     }
 }
 
-// A register as a location, where it is as wide.
+/// A register as a location, where it is as wide.
 fn vector_location(wide: bool, reg: RegSpec) -> Option<Location>
     ensures value { result ≡ same_width wide (vector_in reg.bank reg.num) }
     ensures within { IfSome result IsLocation }
@@ -86,7 +86,7 @@ fn vector_location(wide: bool, reg: RegSpec) -> Option<Location>
 }
 
 impl<'a> Machine<'a> {
-    // The location that an address means.
+    /// The location that an address means.
     fn memory_location(&self, address: Address) -> Option<Location>
         ensures value { result ≡ option_map Memory (place_of self.now.q address) }
         ensures within { IfSome result IsLocation }
@@ -95,7 +95,7 @@ impl<'a> Machine<'a> {
         Some(Location::Memory { place })
     }
 
-    // The location of an operand, in an instruction whose vectors are as wide.
+    /// The location of an operand, in an instruction whose vectors are as wide.
     #[tactic(auto, unfolding(crate::specs::Subset::source_of))]
     fn source_of(&self, wide: bool, operand: Operand) -> Option<Location>
         ensures value { result ≡ source_of self.now.q wide (operand_meaning operand) }
@@ -110,7 +110,7 @@ impl<'a> Machine<'a> {
         }
     }
 
-    // An instruction on two operands, with the result in a vector.
+    /// An instruction on two operands, with the result in a vector.
     #[tactic(auto, unfolding(crate::specs::Subset::combine_of))]
     fn combine_of(
         &self,
@@ -144,7 +144,7 @@ impl<'a> Machine<'a> {
         })
     }
 
-    // A move into a vector register.
+    /// A move into a vector register.
     fn move_to(&self, dest: RegSpec, source: Operand) -> Option<Work>
         ensures value { result ≡ move_to self.now.q (vector_in dest.bank dest.num) (operand_meaning source) }
         ensures within { IfSome result IsWork }
@@ -158,7 +158,7 @@ impl<'a> Machine<'a> {
         })
     }
 
-    // A move of a vector register into the memory.
+    /// A move of a vector register into the memory.
     #[tactic(auto, unfolding(crate::specs::Subset::move_of))]
     fn move_from(&self, address: Address, source: Operand) -> Option<Work>
         ensures value { result ≡ move_of self.now.q (memory address) (operand_meaning source) }
@@ -176,7 +176,7 @@ impl<'a> Machine<'a> {
         })
     }
 
-    // A move, of which one operand is a vector register.
+    /// A move, of which one operand is a vector register.
     #[tactic(auto, unfolding(crate::specs::Subset::move_of))]
     fn move_of(&self, dest: Operand, source: Operand) -> Option<Work>
         ensures value { result ≡ move_of self.now.q (operand_meaning dest) (operand_meaning source) }
@@ -191,7 +191,7 @@ impl<'a> Machine<'a> {
         }
     }
 
-    // What an instruction of the subset does, or `None` where it isn't of the subset.
+    /// What an instruction of the subset does, or `None` where it isn't of the subset.
     #[tactic(auto, unfolding(crate::specs::Subset::work_of))]
     pub(crate) fn work_of(&self, instruction: &Instruction) -> Option<Work>
         ensures value { result ≡ work_of self.now.q instruction.now.meaning }

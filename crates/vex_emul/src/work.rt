@@ -55,7 +55,7 @@ pub enum Work {
 }
 
 impl<'a> Machine<'a> {
-    // The bytes there, or `None` where they are in memory and don't lie wholly there.
+    /// The bytes there, or `None` where they are in memory and don't lie wholly there.
     #[tactic(auto, unfolding(crate::specs::Work::fetched))]
     fn fetch<const N: usize>(&self, location: Location) -> Option<[u8; N]>
         requires size { N ≤ 32 }
@@ -74,7 +74,7 @@ impl<'a> Machine<'a> {
         }
     }
 
-    // Writes the bytes there. `false`, and nothing is changed, where they go to memory and don't lie wholly there.
+    /// Writes the bytes there. `false`, and nothing is changed, where they go to memory and don't lie wholly there.
     #[tactic(auto, unfolding(crate::specs::Work::stored))]
     fn put<const N: usize>(&mut self, location: Location, value: Simd<u8, N>) -> bool
         requires size { N ≤ 32 }
@@ -99,8 +99,8 @@ impl<'a> Machine<'a> {
         }
     }
 
-    // Puts the result of an operation into a vector register. `false`, and nothing is changed, where the second operand
-    // is in memory and doesn't lie wholly there.
+    /// Puts the result of an operation into a vector register. `false`, and nothing is changed, where the second
+    /// operand is in memory and doesn't lie wholly there.
     #[tactic(auto, unfolding(crate::specs::Work::combined))]
     fn combine(
         &mut self,
@@ -131,8 +131,8 @@ impl<'a> Machine<'a> {
         true
     }
 
-    // Copies an operand into another. `false`, and nothing is changed, where one of them is in memory and doesn't lie
-    // wholly there.
+    /// Copies an operand into another. `false`, and nothing is changed, where one of them is in memory and doesn't lie
+    /// wholly there.
     #[tactic(auto, unfolding(crate::specs::Work::moved))]
     fn copy(&mut self, wide: bool, dest: Location, source: Location) -> bool
         requires { IsWork (Move wide dest source) }
@@ -153,8 +153,8 @@ impl<'a> Machine<'a> {
         }
     }
 
-    // Does what the instruction does. `false`, and nothing is changed, where an operand in memory doesn't lie wholly
-    // there.
+    /// Does what the instruction does. `false`, and nothing is changed, where an operand in memory doesn't lie wholly
+    /// there.
     pub(crate) fn work(&mut self, work: Work) -> bool
         requires { IsWork work }
         ensures { MatchBool result

@@ -96,7 +96,7 @@ pub struct SweepResult<'a> {
     pub end: SweepEnd,
 }
 
-// The instruction at the front of bytes that stand at a place, or the error that blocks them.
+/// The instruction at the front of bytes that stand at a place, or the error that blocks them.
 fn item_at<'a>(
     decoder: &InstDecoder,
     place: usize,

@@ -15,7 +15,7 @@ use x86_operand::{DecodeError, Instruction};
 use x86_permit::revise_instruction;
 use x86_settings::InstDecoder;
 
-// Whether the settings permit an instruction.
+/// Whether the settings permit an instruction.
 fn is_permitted(settings: &InstDecoder, instruction: &Instruction) -> bool
     ensures { result ≡ permits settings.now instruction.now.meaning.evex instruction.now.meaning.opcode }
 {
@@ -23,7 +23,7 @@ fn is_permitted(settings: &InstDecoder, instruction: &Instruction) -> bool
     revise_instruction(settings, &mut revised).is_ok()
 }
 
-// Makes the text the line of canonical bytes, whose opcode is permitted or not.
+/// Makes the text the line of canonical bytes, whose opcode is permitted or not.
 fn permitted_text(text: &mut LineText, permitted: bool, spelling: &Spelling)
     ensures { text.new.bytes ≡ bytes_line permitted (Some spelling.now) }
 {
@@ -34,7 +34,7 @@ fn permitted_text(text: &mut LineText, permitted: bool, spelling: &Spelling)
     }
 }
 
-// Makes the text the line of a text under settings.
+/// Makes the text the line of a text under settings.
 fn asm_text(text: &mut LineText, settings: &InstDecoder, line: &[u8])
     ensures { text.new.bytes ≡ asm_line settings.now line.now }
 {

@@ -29,11 +29,11 @@ pub enum Command {
     Make(u32),
 }
 
-// The greatest number of spellings to make.
+/// The greatest number of spellings to make.
 const MAX_MADE: u32 = 1_000_000;
 
-// The number, where it is one of spellings to make and the word writes it as such: `parse` reads a sign and leading
-// zeros too.
+/// The number, where it is one of spellings to make and the word writes it as such: `parse` reads a sign and leading
+/// zeros too.
 fn count_written(word: &str, count: u32) -> Option<u32>
     ensures { result ≡ count_written word.now count }
 {
@@ -46,8 +46,8 @@ fn count_written(word: &str, count: u32) -> Option<u32>
     }
 }
 
-// The number of spellings to make that a word writes, `None` where it isn't one from 1 to 1,000,000 in decimal, without
-// a sign or a leading zero.
+/// The number of spellings to make that a word writes, `None` where it isn't one from 1 to 1,000,000 in decimal,
+/// without a sign or a leading zero.
 fn count_of(word: &str) -> Option<u32>
     ensures { result ≡ count_of word.now }
 {
@@ -71,7 +71,7 @@ impl Command {
         }
     }
 
-    // The command of one word.
+    /// The command of one word.
     fn of_one(verb: &str) -> Option<Command>
         ensures { result ≡ command_of_one verb.now }
     {
@@ -81,7 +81,7 @@ impl Command {
         }
     }
 
-    // The command of a verb and the word after it.
+    /// The command of a verb and the word after it.
     fn of_two(verb: &str, name: &str) -> Option<Command>
         ensures { result ≡ command_of_two verb.now name.now }
     {

@@ -5,7 +5,7 @@ ghost use Rattle.vex_tool.specs.EmulateLines.{counting};
 
 use crate::emulate_lines::MEMORY_BYTES;
 
-// Fills the bytes, of which byte k is then k modulo 256.
+/// Fills the bytes, of which byte k is then k modulo 256.
 fn count_up(bytes: &mut [u8])
     requires { length bytes.old ≤ 1024 }
     ensures { bytes.new ≡ counting 0 (length bytes.old) }

@@ -16,13 +16,13 @@ use std::env::{Env, FillError};
 use std::io::{self, ErrorKind, Read, Write};
 use std::test::Fail;
 
-// How many bytes the reader gives in its calls, one after another and then from the first on.
+/// How many bytes the reader gives in its calls, one after another and then from the first on.
 const PIECES: [usize; 6] = [1, 4093, 7, 2049, 333, 5];
 
-// A number that no call has.
+/// A number that no call has.
 const NEVER: usize = usize::MAX;
 
-// Gives bytes in odd pieces, and fails once.
+/// Gives bytes in odd pieces, and fails once.
 #[derive(Drop)]
 struct OddReader<'a> {
     rest: &'a [u8],
@@ -60,7 +60,7 @@ impl Read for OddReader<'_> {
     }
 }
 
-// Takes at most so many bytes a call. One of its writes fails, or one of its flushes.
+/// Takes at most so many bytes a call. One of its writes fails, or one of its flushes.
 #[derive(Drop)]
 struct SlowWriter<'a> {
     out: &'a mut Vec<u8>,
@@ -108,7 +108,7 @@ impl Write for SlowWriter<'_> {
 
 const RECODE: &[&str] = &["recode", "default"];
 
-// More than 2^18 bytes of input.
+/// More than 2^18 bytes of input.
 const LINES: usize = 40_000;
 
 #[test]
@@ -273,7 +273,7 @@ fn a_gathered_write_that_failed_is_a_write_fault(rt: HostRuntime) {
     }
 }
 
-// Notes its calls in their order, a write as W and a flush as F.
+/// Notes its calls in their order, a write as W and a flush as F.
 #[derive(Drop)]
 struct Noting {
     calls: ArrayVec<u8, 32>,
@@ -295,7 +295,7 @@ impl Sink for Noting {
     }
 }
 
-// Runs, and input whose reads have a line each, and the calls of the sink.
+/// Runs, and input whose reads have a line each, and the calls of the sink.
 const CALLS: [(&[&str], &[u8], &[u8]); 6] = [
     // A flush before each read, of which the last finds the end, and one at the end.
     (
@@ -326,7 +326,7 @@ fn what_is_held_back_is_handed_on_before_each_read_and_at_the_end(rt: HostRuntim
     }
 }
 
-// The arguments of a command line, of which the first is the program's name.
+/// The arguments of a command line, of which the first is the program's name.
 #[derive(Drop)]
 struct Arguments(&'static [&'static [u8]]);
 
@@ -355,7 +355,7 @@ const LONG: &[u8] = b"xxxxxxxxxxxxxxxxxxxxxxxxxxxxxxxxxxxxxxxxxxxxxxxxxxxxxxxxxx
 
 const NO_TEXT: &[u8] = b"\xFFx";
 
-// Command lines, and the statuses that they end with.
+/// Command lines, and the statuses that they end with.
 const COMMAND_LINES: [(&[&[u8]], Status); 10] = [
     (&[b"vex_tool", b"recode", b"sandybridge"], Status::Done),
     (&[LONG, b"recode", b"sandybridge"], Status::Done),

@@ -34,7 +34,7 @@ const VECTOR_STEP: usize = 16;
 /// A general register at the start holds so many times its number.
 const NUMBER_STEP: u64 = 32;
 
-// A vector at the start.
+/// A vector at the start.
 fn start_vector(counting: &CountingBytes, i: u8) -> &[u8]
     requires { i < 16 }
     ensures { result.now ≡ start_vector i }
@@ -42,7 +42,7 @@ fn start_vector(counting: &CountingBytes, i: u8) -> &[u8]
     counting.part(VECTOR_STEP * usize::from(i), BLOCK_BYTES)
 }
 
-// Puts a machine that may have run code back to the start.
+/// Puts a machine that may have run code back to the start.
 fn put_back(machine: &mut Machine<'_>, counting: &CountingBytes)
     requires { length machine.old.memory ≡ 1024 }
     ensures { machine.new ≡ start }
@@ -87,7 +87,7 @@ impl<'a> LineMachine<'a> {
         }
     }
 
-    // Runs the code under settings, from the start.
+    /// Runs the code under settings, from the start.
     fn run(&mut self, settings: &InstDecoder, code: &[u8]) -> Result<usize, Halt>
         ensures { ran settings.now start code.now ≡ (self.new, result) }
     {
@@ -96,7 +96,7 @@ impl<'a> LineMachine<'a> {
     }
 }
 
-// Makes the text the line of some bytes: a letter and a number, which name them, and the bytes in hex digits.
+/// Makes the text the line of some bytes: a letter and a number, which name them, and the bytes in hex digits.
 fn changed_text(text: &mut LineText, letter: &str, number: usize, bytes: &[u8])
     requires letter { length letter.now ≤ 1 }
     requires bytes { length bytes.now ≤ 32 }
@@ -110,7 +110,7 @@ fn changed_text(text: &mut LineText, letter: &str, number: usize, bytes: &[u8])
     text.push_str("\n");
 }
 
-// Writes the line of some bytes, in one write, unless they are still those of the start.
+/// Writes the line of some bytes, in one write, unless they are still those of the start.
 fn write_changed<K: Sink>(
     letter: &str,
     number: usize,
@@ -131,7 +131,7 @@ fn write_changed<K: Sink>(
     sink.write_all(text.as_str().as_bytes())
 }
 
-// Writes the lines of the vectors that changed.
+/// Writes the lines of the vectors that changed.
 fn write_vectors<K: Sink>(
     machine: &Machine<'_>,
     counting: &CountingBytes,
@@ -155,7 +155,7 @@ fn write_vectors<K: Sink>(
     Ok(())
 }
 
-// The block of the memory at a place.
+/// The block of the memory at a place.
 fn block_at(memory: &[u8], place: usize) -> &[u8]
     requires { place + 32 ≤ length memory.now }
     ensures is { result.now ≡ chunk place 32 memory.now }
@@ -164,7 +164,7 @@ fn block_at(memory: &[u8], place: usize) -> &[u8]
     &memory[place..place + BLOCK_BYTES]
 }
 
-// Writes the lines of the blocks of the memory that changed.
+/// Writes the lines of the blocks of the memory that changed.
 fn write_blocks<K: Sink>(
     memory: &[u8],
     counting: &CountingBytes,
@@ -183,7 +183,7 @@ fn write_blocks<K: Sink>(
     Ok(())
 }
 
-// Makes the text the line of the end of a run.
+/// Makes the text the line of the end of a run.
 fn ran_text(text: &mut LineText, answer: &Result<usize, Halt>)
     ensures { text.new.bytes ≡ ran_line answer.now }
 {

@@ -39,7 +39,7 @@ impl<W: Write> Gatherer<W> {
         }
     }
 
-    // Hands on all that is gathered. What an error leaves unwritten stays gathered.
+    /// Hands on all that is gathered. What an error leaves unwritten stays gathered.
     fn hand_on(&mut self) -> io::Result<()>
         ensures bytes { Keeps (gatherer_contents W.contents self.old) (gatherer_contents W.contents self.new) }
         ensures all { OnOk result (self.new.gathered ≡ []) }

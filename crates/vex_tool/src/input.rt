@@ -19,8 +19,8 @@ use std::alloc::Global;
 /// is passed.
 pub const INPUT_LIMIT: usize = 1 << 26;
 
-// How many bytes a read asks for: a piece, or what is left to the limit where that is less, and one byte
-// at the limit.
+/// How many bytes a read asks for: a piece, or what is left to the limit where that is less, and one byte
+/// at the limit.
 fn wanted(room: usize) -> usize
     ensures to_limit { 0 < room → result ≡ min room PIECE }
     ensures at_limit { room ≡ 0 → result ≡ 1 }
@@ -28,8 +28,8 @@ fn wanted(room: usize) -> usize
     room.clamp(1, PIECE)
 }
 
-// Why a run stops in the midst of a piece. Where there was no memory for a line, the answers of those before it are
-// handed on first.
+/// Why a run stops in the midst of a piece. Where there was no memory for a line, the answers of those before it are
+/// handed on first.
 fn stopped<K: Sink>(stop: Stop, sink: &mut K) -> Stop
     ensures keeps { Keeps (K.text sink.old) (K.text sink.new) }
     ensures cause { IsStopped stop result (K.faults sink.old) (K.faults sink.new) }

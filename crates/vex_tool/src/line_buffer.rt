@@ -89,7 +89,7 @@ impl LineBuffer {
     }
 }
 
-// Writes the report of the line.
+/// Writes the report of the line.
 fn answer<K: Sink>(
     alloc: Global,
     command: &Command,
@@ -110,7 +110,7 @@ fn answer<K: Sink>(
     }
 }
 
-// Takes the bytes before a line end, and answers the line that they complete.
+/// Takes the bytes before a line end, and answers the line that they complete.
 fn end_line<K: Sink>(
     alloc: Global,
     command: &Command,
@@ -160,7 +160,7 @@ pub fn feed<K: Sink>(
     Ok(())
 }
 
-// Hands on what the sink holds back.
+/// Hands on what the sink holds back.
 fn hand_on<K: Sink>(sink: &mut K) -> Result<(), Stop>
     ensures { Answers (λ _. ⊥) result (K.text sink.old) (K.text sink.new) (K.faults sink.old) (K.faults sink.new) [] }
 {

@@ -173,12 +173,12 @@ pub fn run<S: Source, K: Sink>(alloc: Global, words: &Words, source: &mut S, sin
     }
 }
 
-// A word that is refused, for an argument that is too long to be kept or is not UTF-8. It has 65 letters, one more
-// than a word may have.
+/// A word that is refused, for an argument that is too long to be kept or is not UTF-8. It has 65 letters, one more
+/// than a word may have.
 const REFUSED: &str = "xxxxxxxxxxxxxxxxxxxxxxxxxxxxxxxxxxxxxxxxxxxxxxxxxxxxxxxxxxxxxxxxx";
 
-// Pushes an argument, and answers whether it is kept. It is refused exactly where it isn't UTF-8 or `Words::push`
-// refuses it.
+/// Pushes an argument, and answers whether it is kept. It is refused exactly where it isn't UTF-8 or `Words::push`
+/// refuses it.
 fn push_argument(words: &mut Words, argument: &[u8]) -> bool
     ensures accepts { IsTrue result ↔ (IsUtf8 argument.now × ((length words.old.0 < 4) × (length argument.now ≤ 64))) }
     ensures accepted { OnTrue result (words.new ≡ (words.old.0 ++ argument.now ∷ [], words.old.1)) }
@@ -190,7 +190,7 @@ fn push_argument(words: &mut Words, argument: &[u8]) -> bool
     }
 }
 
-// Pushes the program's arguments, without its name.
+/// Pushes the program's arguments, without its name.
 fn push_arguments(env: &impl Env, words: &mut Words) {
     let mut buffer = [0u8; MAX_WORD_LEN];
     for i in 1..usize::MAX {

@@ -15,8 +15,8 @@ use vex_asm::{MAX_TEXT, append_number};
 use vex_encode::{Spelling, recode};
 use x86_settings::InstDecoder;
 
-// What the recodings of generated spellings come to: how many there are, the lengths read, the lengths of the canonical
-// bytes, and these bytes themselves, each added up.
+/// What the recodings of generated spellings come to: how many there are, the lengths read, the lengths of the
+/// canonical bytes, and these bytes themselves, each added up.
 #[derive(Clone, Copy)]
 struct Totals {
     recoded: u64,
@@ -25,7 +25,7 @@ struct Totals {
     sum: u64,
 }
 
-// The length and the canonical bytes of the spelling that begins these bytes, where there is one.
+/// The length and the canonical bytes of the spelling that begins these bytes, where there is one.
 fn recoding(bytes: &[u8]) -> Option<(u8, Spelling)>
     ensures found { result ≡ recoding bytes.now }
     ensures within { IfSome result (λ found. found.0 ≤ length bytes.now) }
@@ -38,7 +38,7 @@ fn recoding(bytes: &[u8]) -> Option<(u8, Spelling)>
     }
 }
 
-// The sum of the bytes of a spelling.
+/// The sum of the bytes of a spelling.
 fn sum_of(bytes: &[u8]) -> u64
     requires { length bytes.now ≤ 11 }
     ensures value { result ≡ sum bytes.now }
@@ -52,7 +52,7 @@ fn sum_of(bytes: &[u8]) -> u64
 }
 
 impl Totals {
-    // Adds the recoding of the next generated spelling, whose number is `i`.
+    /// Adds the recoding of the next generated spelling, whose number is `i`.
     fn add(&mut self, i: usize)
         requires few { i < 4294967296 }
         requires before { IsTotals self.old i }
@@ -68,7 +68,7 @@ impl Totals {
     }
 }
 
-// What the first generated spellings come to.
+/// What the first generated spellings come to.
 fn add_up(count: u32) -> Totals
     ensures { IsTotals result count }
 {
@@ -84,7 +84,7 @@ fn add_up(count: u32) -> Totals
     totals
 }
 
-// Appends a word and a number in decimal.
+/// Appends a word and a number in decimal.
 fn push_count(text: &mut LineText, word: &str, number: u64)
     requires word { length word.now ≤ 7 }
     requires room { array_string_len text.old + 27 ≤ MAX_TEXT }
@@ -95,7 +95,7 @@ fn push_count(text: &mut LineText, word: &str, number: u64)
     append_number(text, number as usize);
 }
 
-// Makes the text the line of these totals over so many spellings.
+/// Makes the text the line of these totals over so many spellings.
 fn made_text(text: &mut LineText, count: u32, totals: &Totals)
     ensures { text.new.bytes ≡ line_of count totals.now }
 {

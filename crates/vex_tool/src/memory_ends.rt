@@ -167,7 +167,7 @@ impl<'a> MemSink<'a> {
         &self.room[..self.len]
     }
 
-    // Appends as much of the piece as there is room for, and answers how many bytes that is.
+    /// Appends as much of the piece as there is room for, and answers how many bytes that is.
     fn append(&mut self, piece: &[u8]) -> usize
         ensures count { result ≡ min (length piece.now) self.old.room }
         ensures after { self.new ≡ with_written self.old (take result piece.now) }

@@ -16,7 +16,7 @@ use x86_operand::{DecodeError, FieldDescription, Instruction};
 use x86_reader::{ListSink, U8Reader};
 use x86_settings::InstDecoder;
 
-// Decodes these bytes under settings, and makes the list the notes on the bytes that this takes.
+/// Decodes these bytes under settings, and makes the list the notes on the bytes that this takes.
 fn list_notes(
     settings: &InstDecoder,
     bytes: &[u8],
@@ -39,7 +39,7 @@ fn list_notes(
     }
 }
 
-// Writes a line for each note, in one write each.
+/// Writes a line for each note, in one write each.
 fn write_note_lines<K: Sink>(
     list: &ListSink<FieldDescription>,
     text: &mut LineText,

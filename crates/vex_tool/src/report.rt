@@ -52,7 +52,7 @@ impl LineError {
     }
 }
 
-// Keeps the line without its spaces, tabs and bytes 13.
+/// Keeps the line without its spaces, tabs and bytes 13.
 fn keep_digits(line: &[u8], kept: &mut ArrayVec<u8, MAX_LINE>)
     requires { length line.now ≤ MAX_LINE }
     ensures { kept.new.items ≡ digits line.now }
@@ -65,8 +65,8 @@ fn keep_digits(line: &[u8], kept: &mut ArrayVec<u8, MAX_LINE>)
     }
 }
 
-// Decodes hex digits to the first places of `bytes`, and answers how many bytes they write: `None` where they aren't an
-// even number of such digits.
+/// Decodes hex digits to the first places of `bytes`, and answers how many bytes they write: `None` where they aren't
+/// an even number of such digits.
 fn decode_digits(text: &[u8], bytes: &mut [u8]) -> Option<usize>
     requires { length text.now / 2 ≤ length bytes.now }
     ensures within { IfSome result (λ n. n ≤ length bytes.new) }
@@ -112,7 +112,7 @@ impl<'a> LineRoom<'a> {
         }
     }
 
-    // Decodes the line's digits to the first places of `bytes`, and answers how many.
+    /// Decodes the line's digits to the first places of `bytes`, and answers how many.
     fn decode(&mut self, line: &[u8]) -> Result<usize, LineError>
         requires { length line.now ≤ MAX_LINE }
         ensures within { IfOk result (λ n. n ≤ MAX_CODE) }
@@ -144,7 +144,7 @@ pub fn write_error<K: Sink>(
     sink.write_all(room.scratch.text.as_str().as_bytes())
 }
 
-// Writes the report of a line of which the command takes these bytes.
+/// Writes the report of a line of which the command takes these bytes.
 fn write_code_report<K: Sink>(
     alloc: Global,
     command: &Command,

@@ -19,7 +19,7 @@ use vex_encode::{Spelling, encode_shortest};
 use x86_operand::{DecodeError, Instruction};
 use x86_settings::InstDecoder;
 
-// The canonical bytes of an instruction that some bytes spell, with a counter of their own.
+/// The canonical bytes of an instruction that some bytes spell, with a counter of their own.
 fn canonical_bytes<L: Ledger>(instruction: &Instruction, blank: Blank) -> Spelling
     requires spelled { (bytes : List ℕ) × Spells bytes instruction.now.meaning }
     requires name { blank.name ≡ L.name }

@@ -14,7 +14,7 @@ use std::io::{self, ErrorKind, Read};
 use std::process::Abort;
 use std::test::Fail;
 
-// What the five lines of the input give.
+/// What the five lines of the input give.
 const ANSWERS: [&str; 5] = [
     "3 VZEROUPPER 0 c5f877\n",
     "error BadHex\n",
@@ -23,7 +23,7 @@ const ANSWERS: [&str; 5] = [
     "5 VPBROADCASTD y0 x1 0 c4e27d58c1\n",
 ];
 
-// Five lines: with blanks, of three digits, empty, of 8,193 bytes, and without a line end.
+/// Five lines: with blanks, of three digits, empty, of 8,193 bytes, and without a line end.
 fn five_lines(alloc: Global) -> Result<Vec<u8>, AllocError> {
     let mut input = Vec::new(alloc);
     input.extend_from_slice(b" c5 f8\t77\r\nc5f\n\n")?;
@@ -34,7 +34,7 @@ fn five_lines(alloc: Global) -> Result<Vec<u8>, AllocError> {
     Ok(input)
 }
 
-// The answers of the first lines, joined.
+/// The answers of the first lines, joined.
 fn answers(alloc: Global, count: usize) -> Result<Vec<u8>, AllocError> {
     let mut text = Vec::new(alloc);
     for answer in ANSWERS.iter().take(count) {
@@ -43,7 +43,7 @@ fn answers(alloc: Global, count: usize) -> Result<Vec<u8>, AllocError> {
     Ok(text)
 }
 
-// Runs `recode default` into this room, and wants this status and text.
+/// Runs `recode default` into this room, and wants this status and text.
 fn check<S: Source>(
     rt: &impl Abort,
     alloc: Global,
@@ -78,8 +78,8 @@ fn lines_do_not_depend_on_the_pieces(rt: HostRuntime) -> Result<(), Fail> {
     Ok(())
 }
 
-// Fails one read after another of the five lines in pieces of this size: the answers of the whole lines before it are
-// written.
+/// Fails one read after another of the five lines in pieces of this size: the answers of the whole lines before it are
+/// written.
 fn fail_reads(rt: &impl Abort, alloc: Global, step: usize, calls: usize) -> Result<(), AllocError>
     requires some { 1 ≤ step }
     requires most { step ≤ 4096 }
@@ -112,8 +112,8 @@ fn a_failed_read_leaves_the_answers_of_the_whole_lines(rt: HostRuntime) -> Resul
     Ok(())
 }
 
-// Fails one write after another of the answers to the five lines in pieces of this size: the answers before it are
-// written.
+/// Fails one write after another of the answers to the five lines in pieces of this size: the answers before it are
+/// written.
 fn fail_writes(rt: &impl Abort, alloc: Global, step: usize) -> Result<(), AllocError>
     requires { 1 ≤ step }
 {
@@ -146,7 +146,7 @@ fn a_failed_write_leaves_a_front_of_the_answers(rt: HostRuntime) -> Result<(), F
     Ok(())
 }
 
-// Gives bytes `6`, and one that ends a line, and tells nothing.
+/// Gives bytes `6`, and one that ends a line, and tells nothing.
 #[derive(Drop)]
 struct Flood {
     left: u64,
@@ -276,7 +276,7 @@ fn no_status_equals_another(rt: HostRuntime) {
     }
 }
 
-// A reader that fails.
+/// A reader that fails.
 #[derive(Drop)]
 struct Broken;
 

@@ -12,7 +12,7 @@ use vex_list::{first_spelling, spelling_after};
 use x86_operand::Instruction;
 use x86_settings::InstDecoder;
 
-// Writes a line for each spelling of the instruction's meaning, in order, in one write each.
+/// Writes a line for each spelling of the instruction's meaning, in order, in one write each.
 fn write_each<K: Sink>(
     instruction: &Instruction,
     text: &mut LineText,
@@ -30,7 +30,7 @@ fn write_each<K: Sink>(
     Ok(())
 }
 
-// Writes the lines of all spellings of the instruction's meaning, and that of the end.
+/// Writes the lines of all spellings of the instruction's meaning, and that of the end.
 fn write_all_spellings<K: Sink>(
     instruction: &Instruction,
     text: &mut LineText,

@@ -12,7 +12,7 @@ use std::alloc::Global;
 use vex_encode::{Items, NoMemory, sweep};
 use x86_settings::InstDecoder;
 
-// Writes a line for each item, in one write each.
+/// Writes a line for each item, in one write each.
 fn write_items<K: Sink>(items: &Items<'_>, text: &mut LineText, sink: &mut K) -> Result<(), Failed>
     ensures { Writes result (K.text sink.old) (K.text sink.new) (K.faults sink.old) (K.faults sink.new)
         (flat_map item_line items.now) }
