@@ -96,10 +96,10 @@ mod example;"""
 def enums(parts):
     text = [f"//! The names of x86 opcodes that the decoder and its settings speak of: the types, {NOTE}."]
     text += HEAD.splitlines()
-    modules = [part.low for part in parts] + ["laws", "list", "name", "number", "slots"]
-    text += [f"mod {name};" for name in sorted(modules)]
+    modules = [part.low for part in parts] + ["list", "name", "number", "slots"]
+    text += sorted(["pub mod laws;", *(f"mod {name};" for name in modules)], key=lambda line: line.split()[-1])
     text += ["#[cfg(test)]", "mod tests;", ""]
-    text += ["pub use condition::Condition;", "pub use laws::constants_have_their_names;", ""]
+    text += ["pub use condition::Condition;", ""]
     text += ["/// An opcode: an enum of parts by subject, with one constant for each name, as `Opcode::VADDPS`."]
     text += ["#[derive(Clone, Copy, PartialEq, Eq, Default)]", "pub enum Opcode {"]
     text += ["    /// No instruction: what an entry announces where a group or the operand decides."]

@@ -1,6 +1,7 @@
 //! The bytes that given texts assemble to, and the errors of others.
 
-use crate::{AsmError, assemble, assemble_instruction, meaning_of_line, print, text_assembles};
+use crate::laws::{meaning_of_line, text_assembles};
+use crate::{AsmError, assemble, assemble_instruction, print};
 use x86_settings::InstDecoder;
 
 /// Texts, and the bytes that they assemble to: an instruction without operands, registers, another entry that is

@@ -4,9 +4,9 @@
 ghost use Rattle.vex_asm.specs.Assembly.{TextAssembles};
 ghost use Rattle.vex_asm.specs.Laws.{MeaningOfLine, TextsAreWords, TextsDiffer};
 
-use vex_decode::more_settings;
+use vex_decode::laws::more_settings;
 use vex_encode::recode;
-use x86_operand::instruction_in_range;
+use x86_operand::laws::instruction_in_range;
 use x86_settings::InstDecoder;
 
 /// The texts of different meanings differ.

@@ -19,7 +19,7 @@ mod assembler_tests;
 mod error;
 #[cfg(test)]
 mod example;
-mod laws;
+pub mod laws;
 mod number;
 mod operand;
 mod printer;
@@ -31,7 +31,6 @@ mod words;
 pub use appender::{MAX_MEANING, MAX_TEXT, append, append_name, append_number, append_register};
 pub use assembler::{assemble, assemble_instruction};
 pub use error::AsmError;
-pub use laws::{meaning_of_line, text_assembles, texts_are_words, texts_differ};
 pub use printer::{MeaningText, print};
 pub use reader::read;
 pub use words::is_blank;

@@ -13,10 +13,7 @@ ghost use Rattle.vex_asm.specs.declared.error.AsmError.TheVariants.{BadText};
 use crate::error::AsmError;
 use crate::operand::{operand, size};
 use crate::words::next_word;
-use x86_operand::{Instruction, MemoryAccessSize, Opcode, Operand};
-
-/// The number of operands that a line has at most.
-const MAX_OPERANDS: usize = 4;
+use x86_operand::{Instruction, MAX_OPERANDS, MemoryAccessSize, Opcode, Operand};
 
 /// What stands behind the name on a line: operands up to a count, and the size of the memory operand.
 #[derive(Clone, Copy)]

@@ -1,9 +1,7 @@
 //! What texts of meanings are printed and read, and what is no text.
 
-use crate::{
-    AsmError, MAX_TEXT, append, append_name, append_number, append_register, print, read,
-    texts_are_words, texts_differ,
-};
+use crate::laws::{texts_are_words, texts_differ};
+use crate::{AsmError, MAX_TEXT, append, append_name, append_number, append_register, print, read};
 use arrayvec::ArrayString;
 use std::process::Abort;
 use std::test::Fail;

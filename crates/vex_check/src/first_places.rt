@@ -9,18 +9,7 @@ ghost use Rattle.vex_check.specs.FirstPlaces.{all_there, bits_there, noted, to_l
 use crate::needs::First;
 use arrayvec::ArrayVec;
 use x86_opcode::Opcode;
-use x86_settings::InstDecoder;
-
-// The numbers of the five bits in the settings.
-const AESNI: u8 = 5;
-
-const AVX: u8 = 7;
-
-const BMI1: u8 = 25;
-
-const BMI2: u8 = 26;
-
-const F16C: u8 = 32;
+use x86_settings::{InstDecoder, bits};
 
 /// The first place that needs each bit, where some place does.
 #[derive(Drop)]
@@ -76,11 +65,11 @@ impl FirstPlaces {
     pub fn note(&mut self, least: &InstDecoder, place: usize, opcode: Opcode)
         ensures { self.new ≡ noted (is_set least.now) place opcode self.old }
     {
-        keep_first(&mut self.aesni, least.aesni(), AESNI, place, opcode);
-        keep_first(&mut self.avx, least.avx(), AVX, place, opcode);
-        keep_first(&mut self.bmi1, least.bmi1(), BMI1, place, opcode);
-        keep_first(&mut self.bmi2, least.bmi2(), BMI2, place, opcode);
-        keep_first(&mut self.f16c, least.f16c(), F16C, place, opcode);
+        keep_first(&mut self.aesni, least.aesni(), bits::AESNI, place, opcode);
+        keep_first(&mut self.avx, least.avx(), bits::AVX, place, opcode);
+        keep_first(&mut self.bmi1, least.bmi1(), bits::BMI1, place, opcode);
+        keep_first(&mut self.bmi2, least.bmi2(), bits::BMI2, place, opcode);
+        keep_first(&mut self.f16c, least.f16c(), bits::F16C, place, opcode);
     }
 
     /// The places that are there, in ascending order of their bits.

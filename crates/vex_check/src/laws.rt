@@ -3,8 +3,8 @@
 
 ghost use Rattle.vex_check.specs.Accepted.{NeedsSayWhereOthersStop, NeedsSayWhoAccepts};
 
-use vex_decode::{reading_is_spelling, vex_opcodes};
-use x86_permit::all_settings_permit_all;
+use vex_decode::laws::{reading_is_spelling, vex_opcodes};
+use x86_permit::laws::all_settings_permit_all;
 
 /// Where a run has no fault under all settings: under any settings its sweep ends after all bytes exactly where they
 /// have every bit that the run needs, and else it is stopped, by `InvalidOpcode`, at the least place that needs a bit

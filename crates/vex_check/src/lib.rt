@@ -18,12 +18,11 @@ mod checker;
 #[cfg(test)]
 mod example;
 mod first_places;
-mod laws;
+pub mod laws;
 mod needs;
 
 pub use accept::accepts;
 pub use checker::check;
-pub use laws::needs_say_who_accepts;
 pub use needs::{First, Needs, RunCause, RunFault};
 
 #[cfg(test)]

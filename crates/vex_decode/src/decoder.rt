@@ -17,6 +17,10 @@ use x86_permit::revise_instruction;
 use x86_reader::{DescriptionSink, NullSink, Reader, U8Reader};
 use x86_settings::InstDecoder;
 
+/// The greatest number of bytes of an instruction in VEX form: 3 of prefix, then opcode, ModRM, SIB, 4 of displacement
+/// and 1 of immediate (Intel SDM volume 2, section 2.3.11 and figure 2-8).
+pub const MAX_BYTES: usize = 11;
+
 /// Decodes the instruction at the front of bytes, under settings (Intel SDM volume 2, section 2.3).
 ///
 /// Each call marks its reader first, and takes the bytes of the steps that it does and no more, at most 11. The steps

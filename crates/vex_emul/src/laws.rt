@@ -2,7 +2,7 @@
 
 ghost use Rattle.vex_emul.specs.Laws.{SubsetExactly, StepOfSpelling, StepOfError};
 
-use vex_decode::spelling_is_read;
+use vex_decode::laws::spelling_is_read;
 
 /// An instruction that bytes spell has something that it does, so that a run never answers `Unsupported` at it, exactly
 /// where it is unmarked, has one of the eighteen opcodes and no base rip.

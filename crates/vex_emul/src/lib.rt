@@ -22,7 +22,7 @@
 #[cfg(test)]
 mod example;
 mod kernels;
-mod laws;
+pub mod laws;
 mod machine;
 mod operation;
 mod run;
@@ -31,6 +31,5 @@ mod subset;
 mod tests;
 mod work;
 
-pub use laws::{steps, subset_exactly};
 pub use machine::{Machine, VECTOR_BYTES};
 pub use run::{Halt, HaltCause, run_code};

@@ -4,7 +4,8 @@ ghost use Rattle.std.specs.Prelude.{◌≡◌, ◌<◌, ◌≤◌, length, drop,
 ghost use Rattle.vex_emul.specs.Run.{ran, step};
 
 use crate::machine::Machine;
-use vex_decode::{Decoder, prefix_free, spelling_is_read};
+use vex_decode::Decoder;
+use vex_decode::laws::{prefix_free, spelling_is_read};
 use x86_operand::DecodeError;
 use x86_settings::InstDecoder;
 

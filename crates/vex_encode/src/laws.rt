@@ -4,7 +4,7 @@
 ghost use Rattle.vex_encode.specs.Laws.{CanonicalAgain, CanonicalDecodes, CanonicalNotBlocked, CanonicalSpells};
 ghost use Rattle.vex_encode.specs.Laws.{CanonicalTellsApart, Shortest, StandardIsNone, StandardIsSome};
 
-use vex_decode::{blocked_or_begun, one_meaning, prefix_free};
+use vex_decode::laws::{blocked_or_begun, one_meaning, prefix_free};
 
 /// Meanings that have a spelling have equal canonical bytes exactly where they are equal.
 pub fn canonical_tells_apart()

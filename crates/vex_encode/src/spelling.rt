@@ -7,15 +7,12 @@ ghost use Rattle.std.specs.Prelude.{nat_eq, ◌≡◌, ◌↔◌, IsTrue, IsSome
 
 use arrayvec::ArrayVec;
 use std::marker::Model;
-
-/// The greatest number of bytes of an instruction in VEX form: 3 of prefix, then opcode, ModRM, SIB, 4 of
-/// displacement and 1 of immediate (Intel SDM volume 2, section 2.3.11 and figure 2-8).
-pub const MAX_SPELLING: usize = 11;
+use vex_decode::MAX_BYTES;
 
 /// The bytes of one instruction, at most 11.
 #[derive(Debug, Drop)]
 pub struct Spelling {
-    bytes: ArrayVec<u8, MAX_SPELLING>,
+    bytes: ArrayVec<u8, MAX_BYTES>,
 }
 
 impl Model for Spelling {
@@ -41,7 +38,7 @@ impl Spelling {
         ensures within { IsSome result ↔ (length bytes.now ≤ 11) }
         ensures bytes { IfSome result (λ spelling. spelling ≡ bytes.now) }
     {
-        if bytes.len() > MAX_SPELLING {
+        if bytes.len() > MAX_BYTES {
             return None;
         }
         let mut spelling = Spelling::new();

@@ -13,7 +13,7 @@ use crate::spelling::Spelling;
 use std::alloc::Global;
 use std::marker::Model;
 use thiserror::Error;
-use vex_decode::{prefix_free, reading_is_spelling};
+use vex_decode::laws::{prefix_free, reading_is_spelling};
 use x86_operand::{DecodeError, Instruction};
 use x86_settings::InstDecoder;
 

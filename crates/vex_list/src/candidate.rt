@@ -1,6 +1,6 @@
 //! Writing the bytes of a choice.
 
-ghost use Rattle.std.specs.Prelude.{◌≡◌, ◌<◌, ◌≤◌, ◌+◌, ◌*◌, ◌++◌, ◌∷◌, length};
+ghost use Rattle.std.specs.Prelude.{◌≡◌, ◌<◌, ◌≤◌, ◌+◌, ◌++◌, ◌∷◌, length};
 ghost use Rattle.x86_address.specs.Bytes.{displacement_bytes, doubleword_bytes};
 ghost use Rattle.x86_address.specs.Place.{mod_of_displacement, place_bytes};
 ghost use Rattle.x86_address.specs.Shortest.{doubleword_of, index_field, plain_index};
@@ -14,13 +14,11 @@ ghost use Rattle.vex_list.specs.Sets.{address_place, seen_fields};
 
 use crate::choices::{AddressForm, Choices, PrefixForm, RowParts, Width};
 use arrayvec::ArrayVec;
-use vex_decode::{three_byte_prefix, two_byte_prefix};
+use vex_decode::{MAX_BYTES, three_byte_prefix, two_byte_prefix};
 use vex_forms::OperandE;
 use vex_rows::Prefix;
+use x86_address::pack_fields;
 use x86_operand::{Address, Index, RegisterBank};
-
-/// The greatest number of bytes of an instruction.
-const MAX_BYTES: usize = 11;
 
 /// The bytes of a choice.
 pub type Bytes = ArrayVec<u8, MAX_BYTES>;
@@ -64,16 +62,6 @@ fn prefix(parts: &RowParts, choices: &Choices) -> Bytes
         }
     }
     bytes
-}
-
-/// ModRM or SIB: two bits, three bits and three bits (Intel SDM volume 2, section 2.1.3).
-fn packed(high: u8, middle: u8, low: u8) -> u8
-    requires high { high < 4 }
-    requires middle { middle < 8 }
-    requires low { low < 8 }
-    ensures { result ≡ 64 * high + 8 * middle + low }
-{
-    64 * high + 8 * middle + low
 }
 
 /// The index field of SIB, 4 for none.
@@ -142,12 +130,12 @@ fn push_numbered(
 {
     match form {
         AddressForm::WithoutSib(width) => {
-            bytes.push(packed(mode(width, disp), reg, number % 8));
+            bytes.push(pack_fields(mode(width, disp), reg, number % 8));
             push_displacement(bytes, width, disp);
         }
         AddressForm::WithSib(exponent, width) => {
-            bytes.push(packed(mode(width, disp), reg, 4));
-            bytes.push(packed(exponent, index_field(index), number % 8));
+            bytes.push(pack_fields(mode(width, disp), reg, 4));
+            bytes.push(pack_fields(exponent, index_field(index), number % 8));
             push_displacement(bytes, width, disp);
         }
     }
@@ -175,12 +163,12 @@ fn push_address(bytes: &mut Bytes, reg: u8, form: AddressForm, address: Address)
 {
     match address.base {
         None => {
-            bytes.push(packed(0, reg, 4));
-            bytes.push(packed(exponent(form), index_field(address.index), 5));
+            bytes.push(pack_fields(0, reg, 4));
+            bytes.push(pack_fields(exponent(form), index_field(address.index), 5));
             push_doubleword(bytes, address.disp);
         }
         Some(base) if base.bank() == RegisterBank::RIP => {
-            bytes.push(packed(0, reg, 5));
+            bytes.push(pack_fields(0, reg, 5));
             push_doubleword(bytes, address.disp);
         }
         Some(base) => {
@@ -199,7 +187,7 @@ fn push_place(bytes: &mut Bytes, reg: u8, form: AddressForm, e: OperandE)
 {
     match e {
         OperandE::Absent => {}
-        OperandE::Register(number) => bytes.push(packed(3, reg, number % 8)),
+        OperandE::Register(number) => bytes.push(pack_fields(3, reg, number % 8)),
         OperandE::Memory(address) => push_address(bytes, reg, form, address),
     }
 }

@@ -3,7 +3,7 @@
 
 ghost use Rattle.vex_list.specs.Laws.{AllAreListed, ListIsOne, NextIsListed, NoneMissing, TheseAreAll};
 
-use vex_decode::{prefix_free, reading_is_spelling, spelling_is_read};
+use vex_decode::laws::{prefix_free, reading_is_spelling, spelling_is_read};
 
 /// Whatever parts of a row mean a meaning are made by some choice of what the row and the meaning leave open.
 pub fn none_missing()

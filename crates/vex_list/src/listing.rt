@@ -18,7 +18,7 @@ use arrayvec::ArrayVec;
 use std::marker::Brand;
 use std::sync::ledger::{Blank, Ledger};
 use step_counter::Steps;
-use vex_decode::prefix_free;
+use vex_decode::laws::prefix_free;
 use vex_encode::{Spelling, encode_shortest};
 use vex_forms::laws::rows_are_choices;
 use vex_rows::laws::rows_have_entries;

@@ -5,10 +5,11 @@ ghost use Rattle.vex_decode.specs.Spelling.{Spells};
 ghost use Rattle.vex_list.specs.Order.{AtMost, Before};
 ghost use Rattle.vex_list.specs.Next.{Covers};
 
-use vex_decode::{Decoder, blocked_or_begun, one_meaning, prefix_free};
+use vex_decode::Decoder;
+use vex_decode::laws::{blocked_or_begun, one_meaning, prefix_free};
 use vex_encode::Spelling;
 use x86_operand::Instruction;
-use x86_permit::all_settings_permit_all;
+use x86_permit::laws::all_settings_permit_all;
 use x86_settings::InstDecoder;
 
 /// What is looked for: the nearest spelling of an instruction's meaning after some bytes.

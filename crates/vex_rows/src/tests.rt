@@ -15,7 +15,7 @@ use std::test::Fail;
 use step_counter::Steps;
 use x86_operand::Opcode;
 
-// `lookup` with a counter of its own.
+/// `lookup` with a counter of its own.
 fn look_up_by<L: Ledger>(key: &Key, blank: Blank) -> Option<Entry>
     requires name { blank.name ≡ L.name }
     requires parts { blank.parts ≡ L.parts }
@@ -28,7 +28,7 @@ fn look_up(key: &Key) -> Option<Entry> {
     look_up_by::<Brand>(key, Blank::new(1))
 }
 
-// `entry_at` with a counter of its own.
+/// `entry_at` with a counter of its own.
 fn entry_by<L: Ledger>(i: usize, blank: Blank) -> Entry
     requires name { blank.name ≡ L.name }
     requires parts { blank.parts ≡ L.parts }
@@ -44,7 +44,7 @@ fn entry(i: usize) -> Entry
     entry_by::<Brand>(i, Blank::new(1))
 }
 
-// `entries_of` with a counter of its own.
+/// `entries_of` with a counter of its own.
 fn entries_by<L: Ledger>(opcode: Opcode, blank: Blank) -> ArrayVec<Entry, 4>
     requires name { blank.name ≡ L.name }
     requires parts { blank.parts ≡ L.parts }
@@ -97,7 +97,7 @@ fn keys_have_their_entries(rt: HostRuntime) -> Result<(), Fail> {
     Ok(())
 }
 
-// Every key of every opcode map and implied prefix, by byte, W and L, against the second copy.
+/// Every key of every opcode map and implied prefix, by byte, W and L, against the second copy.
 #[test]
 fn every_key_has_the_entry_of_the_manual(rt: HostRuntime) -> Result<(), Fail> {
     for map in [Map::Map0F, Map::Map0F38, Map::Map0F3A] {
@@ -161,8 +161,8 @@ fn opcodes_have_their_entries(rt: HostRuntime) -> Result<(), Fail> {
     Ok(())
 }
 
-// The steps of each form: the checks before ModRM, whether there is a ModRM byte, the checks after it, whether an
-// address is read, the checks after it, and whether there is an immediate byte.
+/// The steps of each form: the checks before ModRM, whether there is a ModRM byte, the checks after it, whether an
+/// address is read, the checks after it, and whether there is an immediate byte.
 static STEPS: [(&[Form], &[Check], bool, &[Check], bool, &[Check], bool); 17] = [
     (&[Form::Nothing], &[V0], false, &[], false, &[], false),
     (
@@ -361,7 +361,7 @@ fn forms_have_their_steps(rt: HostRuntime) -> Result<(), Fail> {
     Ok(())
 }
 
-// The reg fields of each form that has groups, with their opcodes.
+/// The reg fields of each form that has groups, with their opcodes.
 static GROUPS: [(Form, &[(u8, Opcode)]); 5] = [
     (
         Form::VPS_71,

@@ -4,10 +4,10 @@
 ghost use Rattle.vex_tool.specs.Laws.{LineOfError, LineOfNoText, LineOfSpelling, LineOfText, RecodingOfError};
 ghost use Rattle.vex_tool.specs.Laws.{RecodingOfSpelling, ResultAssembles};
 
-use vex_asm::meaning_of_line;
-use vex_decode::spelling_is_read;
+use vex_asm::laws::meaning_of_line;
+use vex_decode::laws::spelling_is_read;
 use vex_encode::recode;
-use x86_operand::instruction_in_range;
+use x86_operand::laws::instruction_in_range;
 use x86_settings::InstDecoder;
 
 /// The result line of some bytes is that of the length, the meaning and the canonical bytes of the spelling that begins

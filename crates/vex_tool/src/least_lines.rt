@@ -11,6 +11,7 @@ use crate::ends::{Failed, Sink};
 use crate::line_text::{LineText, push_stopped};
 use vex_asm::{MAX_TEXT, append_name, append_number};
 use vex_check::{First, Needs, RunCause, RunFault, accepts, check};
+use x86_settings::bits;
 use x86_uarch::{names, profile};
 
 /// What the line of profiles begins with.
@@ -22,11 +23,11 @@ fn bit_name(bit: u8) -> &'static str
     ensures short { length result.now ≤ 5 }
 {
     match bit {
-        5 => "aesni",
-        7 => "avx",
-        25 => "bmi1",
-        26 => "bmi2",
-        // Bit 32: no run needs any other.
+        bits::AESNI => "aesni",
+        bits::AVX => "avx",
+        bits::BMI1 => "bmi1",
+        bits::BMI2 => "bmi2",
+        // The bit `F16C`: no run needs any other.
         _ => "f16c",
     }
 }

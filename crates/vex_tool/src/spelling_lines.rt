@@ -7,7 +7,8 @@ ghost use Rattle.vex_tool.specs.SpellingLines.{lines_of_meaning, spelling_line, 
 
 use crate::ends::{Failed, Sink};
 use crate::line_text::{LineText, bytes_text, error_text};
-use vex_decode::{Decoder, spelling_is_read};
+use vex_decode::Decoder;
+use vex_decode::laws::spelling_is_read;
 use vex_list::{first_spelling, spelling_after};
 use x86_operand::Instruction;
 use x86_settings::InstDecoder;

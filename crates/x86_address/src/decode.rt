@@ -122,7 +122,7 @@ pub fn read_byte<R: Reader>(words: &mut R) -> Result<u8, DecodeError>
     words.next().map_err(|_| DecodeError::ExhaustedInput)
 }
 
-// A displacement of four bytes, the lowest first.
+/// A displacement of four bytes, the lowest first.
 fn read_doubleword<R: Reader>(words: &mut R) -> Result<i32, DecodeError>
     ensures { Follows take_doubleword (λ n disp. disp ≡ cast_signed w32 n)
         (R.state words.old) (R.state words.new) result }
@@ -134,7 +134,7 @@ fn read_doubleword<R: Reader>(words: &mut R) -> Result<i32, DecodeError>
     Ok(i32::from_le_bytes([lowest, second, third, highest]))
 }
 
-// A displacement as long as the field mod says: none, a byte or four bytes for mod 0, 1 and 2.
+/// A displacement as long as the field mod says: none, a byte or four bytes for mod 0, 1 and 2.
 fn read_displacement<R: Reader>(words: &mut R, mode: u8) -> Result<i32, DecodeError>
     requires { mode < 3 }
     ensures { Follows (take_displacement mode) (λ d disp. disp ≡ displacement_value d)
@@ -147,7 +147,7 @@ fn read_displacement<R: Reader>(words: &mut R, mode: u8) -> Result<i32, DecodeEr
     }
 }
 
-// The general register of a field of three bits and the prefix bit above them.
+/// The general register of a field of three bits and the prefix bit above them.
 fn general(field: u8, upper: bool) -> RegSpec
     requires { field < 8 }
     ensures { result ≡ record { bank = RegisterBank.Q; num = field + 8 * bit upper } }
@@ -155,14 +155,14 @@ fn general(field: u8, upper: bool) -> RegSpec
     RegSpec::of(RegisterBank::Q, field + 8 * u8::from(upper)).unwrap()
 }
 
-// The instruction pointer as a base.
+/// The instruction pointer as a base.
 fn instruction_pointer() -> RegSpec
     ensures { result ≡ record { bank = RegisterBank.RIP; num = 0 } }
 {
     RegSpec::of(RegisterBank::RIP, 0).unwrap()
 }
 
-// The index that SIB and X name: the number 4 means none, but of a vector register.
+/// The index that SIB and X name: the number 4 means none, but of a vector register.
 fn index_of(sib: u8, vector: bool, x: bool) -> Option<Index>
     ensures { result ≡ index_register RegisterBank.Q (index_of vector (sib / 64) ((sib / 8) % 8) x) }
 {
@@ -176,7 +176,7 @@ fn index_of(sib: u8, vector: bool, x: bool) -> Option<Index>
     })
 }
 
-// The address that SIB begins, with mod 0, 1 or 2.
+/// The address that SIB begins, with mod 0, 1 or 2.
 fn read_by_sib<R: Reader>(
     words: &mut R,
     mode: u8,
@@ -202,7 +202,7 @@ fn read_by_sib<R: Reader>(
     Ok(Address { base, index, disp })
 }
 
-// The address that the fields mod and rm of ModRM begin, with mod 0, 1 or 2.
+/// The address that the fields mod and rm of ModRM begin, with mod 0, 1 or 2.
 fn read_by_fields<R: Reader>(
     words: &mut R,
     mode: u8,

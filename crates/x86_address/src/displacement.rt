@@ -9,7 +9,7 @@ ghost use Rattle.x86_address.specs.Written.{displacement_of};
 
 use arrayvec::ArrayVec;
 
-// A displacement as it is written: not at all, in one byte, or in four.
+/// A displacement as it is written: not at all, in one byte, or in four.
 #[derive(Clone, Copy)]
 pub(crate) enum Written {
     Nothing,
@@ -18,7 +18,7 @@ pub(crate) enum Written {
 }
 
 impl Written {
-    // The shortest way to write this value; 0 needs no byte, except where one must stand.
+    /// The shortest way to write this value; 0 needs no byte, except where one must stand.
     pub(crate) fn shortest(value: i32, must: bool) -> Written
         ensures { displacement_of result ≡ shortest_displacement must value }
     {
@@ -31,7 +31,7 @@ impl Written {
         }
     }
 
-    // The mod field that says how long it is.
+    /// The mod field that says how long it is.
     pub(crate) fn mode(self) -> u8
         ensures { result ≡ mod_of_displacement (displacement_of self) }
     {
@@ -42,7 +42,7 @@ impl Written {
         }
     }
 
-    // Its bytes, after these.
+    /// Its bytes, after these.
     pub(crate) fn append(self, bytes: &mut ArrayVec<u8, 6>)
         requires { array_vec_len bytes.old ≤ 2 }
         ensures { bytes.new.items ≡ bytes.old.items ++ displacement_bytes (displacement_of self) }
@@ -55,7 +55,7 @@ impl Written {
     }
 }
 
-// The four bytes of a displacement, the lowest first, after these.
+/// The four bytes of a displacement, the lowest first, after these.
 pub(crate) fn append_doubleword(doubleword: i32, bytes: &mut ArrayVec<u8, 6>)
     requires { array_vec_len bytes.old ≤ 2 }
     ensures { bytes.new.items ≡ bytes.old.items ++ doubleword_bytes (doubleword_of doubleword) }

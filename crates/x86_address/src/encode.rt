@@ -24,7 +24,7 @@ pub struct AddressBytes {
     pub bytes: ArrayVec<u8, 6>,
 }
 
-// Whether bytes can name this base, beside this index.
+/// Whether bytes can name this base, beside this index.
 fn base_fits(base: Option<RegSpec>, index: Option<Index>) -> bool
     ensures fits { IsTrue result ↔ BaseFits base index }
     ensures within { IsTrue result → IsBase (plain_base base) }
@@ -40,7 +40,7 @@ fn base_fits(base: Option<RegSpec>, index: Option<Index>) -> bool
     }
 }
 
-// Whether SIB can say this scale.
+/// Whether SIB can say this scale.
 #[tactic(auto, using(crate::specs::Spells::Lemmas::power_of_scale))]
 fn scale_fits(scale: u8) -> bool
     ensures fits { IsTrue result ↔ IsScale scale }
@@ -49,14 +49,14 @@ fn scale_fits(scale: u8) -> bool
     matches!(scale, 1 | 2 | 4 | 8)
 }
 
-// Whether the number can be that of an index: 4 only of a vector register.
+/// Whether the number can be that of an index: 4 only of a vector register.
 fn may_be_index(vector: bool, num: u8) -> bool
     ensures { IsTrue result ↔ MayBeIndex vector num }
 {
     if vector { true } else { num != 4 }
 }
 
-// Whether bytes can name this index, which has to be there where it is a vector register.
+/// Whether bytes can name this index, which has to be there where it is a vector register.
 fn index_fits(vector: bool, index: Option<Index>) -> bool
     ensures fits { IsTrue result ↔ IndexFits vector index }
     ensures within { IsTrue result → IsIndex vector (plain_index index) }
@@ -71,14 +71,14 @@ fn index_fits(vector: bool, index: Option<Index>) -> bool
     }
 }
 
-// Whether a register's number takes a bit of the prefix.
+/// Whether a register's number takes a bit of the prefix.
 fn is_upper(num: u8) -> bool
     ensures { result ≡ is_upper num }
 {
     num / 8 % 2 == 1
 }
 
-// Whether the index takes the bit X.
+/// Whether the index takes the bit X.
 fn index_is_upper(index: Option<Index>) -> bool
     ensures { result ≡ x_of_index (plain_index index) }
 {
@@ -88,7 +88,7 @@ fn index_is_upper(index: Option<Index>) -> bool
     }
 }
 
-// Whether the base takes the bit B.
+/// Whether the base takes the bit B.
 fn base_is_upper(base: Option<RegSpec>) -> bool
     ensures { result ≡ b_of_base (plain_base base) }
 {
@@ -98,7 +98,7 @@ fn base_is_upper(base: Option<RegSpec>) -> bool
     }
 }
 
-// The exponent of a scale, which is a power of 2.
+/// The exponent of a scale, which is a power of 2.
 fn exponent_of(scale: u8) -> u8
     ensures value { result ≡ exponent_of scale }
     ensures within { result < 4 }
@@ -111,8 +111,9 @@ fn exponent_of(scale: u8) -> u8
     }
 }
 
-// ModRM or SIB: two bits, three bits and three bits.
-fn packed(high: u8, middle: u8, low: u8) -> u8
+/// A ModRM or SIB byte of its fields: two bits, below 4, then twice three, below 8 (Intel SDM volume 2, section 2.1.3).
+#[inline]
+pub fn pack_fields(high: u8, middle: u8, low: u8) -> u8
     requires high { high < 4 }
     requires middle { middle < 8 }
     requires low { low < 8 }
@@ -121,41 +122,41 @@ fn packed(high: u8, middle: u8, low: u8) -> u8
     (high << 6) + (middle << 3) + low
 }
 
-// SIB with this field of the base: the scale's exponent and the low bits of the index, or 0 and 4 for none.
+/// SIB with this field of the base: the scale's exponent and the low bits of the index, or 0 and 4 for none.
 fn sib(index: Option<Index>, base: u8) -> u8
     requires { base < 8 }
     ensures { result
         ≡ 64 * exponent_field (plain_index index) + 8 * index_field (plain_index index) + base }
 {
     match index {
-        None => packed(0, 4, base),
-        Some(index) => packed(exponent_of(index.scale), index.reg.num() % 8, base),
+        None => pack_fields(0, 4, base),
+        Some(index) => pack_fields(exponent_of(index.scale), index.reg.num() % 8, base),
     }
 }
 
-// The bytes of an address with no base.
+/// The bytes of an address with no base.
 fn baseless(index: Option<Index>, disp: i32) -> ArrayVec<u8, 6>
     ensures { result.items ≡ place_bytes 0 (place_of_base NoBase (plain_index index) disp) }
 {
     let mut bytes = ArrayVec::new();
-    bytes.push(packed(0, 0, 4));
+    bytes.push(pack_fields(0, 0, 4));
     bytes.push(sib(index, 5));
     append_doubleword(disp, &mut bytes);
     bytes
 }
 
-// The bytes of an address that is relative to the instruction pointer.
+/// The bytes of an address that is relative to the instruction pointer.
 fn rip_based(disp: i32) -> ArrayVec<u8, 6>
     ensures { result.items ≡ place_bytes 0 (place_of_base Rip None disp) }
 {
     let mut bytes = ArrayVec::new();
-    bytes.push(packed(0, 0, 5));
+    bytes.push(pack_fields(0, 0, 5));
     append_doubleword(disp, &mut bytes);
     bytes
 }
 
-// The bytes of an address with a base register. Its low bits 4 in ModRM mean SIB, and its low bits 5 with mod 0 no
-// base.
+/// The bytes of an address with a base register. Its low bits 4 in ModRM mean SIB, and its low bits 5 with mod 0 no
+/// base.
 fn based(num: u8, index: Option<Index>, disp: i32) -> ArrayVec<u8, 6>
     ensures { result.items ≡ place_bytes 0 (place_of_base (Numbered num) (plain_index index) disp) }
 {
@@ -163,16 +164,16 @@ fn based(num: u8, index: Option<Index>, disp: i32) -> ArrayVec<u8, 6>
     let displacement = Written::shortest(disp, base == 5);
     let mut bytes = ArrayVec::new();
     if index.is_some() || base == 4 {
-        bytes.push(packed(displacement.mode(), 0, 4));
+        bytes.push(pack_fields(displacement.mode(), 0, 4));
         bytes.push(sib(index, base));
     } else {
-        bytes.push(packed(displacement.mode(), 0, base));
+        bytes.push(pack_fields(displacement.mode(), 0, base));
     }
     displacement.append(&mut bytes);
     bytes
 }
 
-// The bytes of the address with these parts, where bytes can name it.
+/// The bytes of the address with these parts, where bytes can name it.
 fn address_bytes(base: Option<RegSpec>, index: Option<Index>, disp: i32) -> ArrayVec<u8, 6>
     ensures { result.items ≡ place_bytes 0 (place_of_base (plain_base base) (plain_index index) disp) }
 {
@@ -183,7 +184,7 @@ fn address_bytes(base: Option<RegSpec>, index: Option<Index>, disp: i32) -> Arra
     }
 }
 
-// The shortest bytes that spell an address, whose index is a vector register or not.
+/// The shortest bytes that spell an address, whose index is a vector register or not.
 fn shortest_of_kind(vector: bool, address: &Address) -> Option<AddressBytes>
     ensures bytes { IfSome result (λ found.
         found.bytes.items ≡ place_bytes 0 (shortest (At (plain address.now)))) }

@@ -18,7 +18,7 @@ mod example;
 mod float;
 mod fused;
 mod integer;
-mod laws;
+pub mod laws;
 mod legacy;
 mod list;
 mod marked;
@@ -29,7 +29,6 @@ mod slots;
 mod tests;
 
 pub use condition::Condition;
-pub use laws::constants_have_their_names;
 
 /// An opcode: an enum of parts by subject, with one constant for each name, as `Opcode::VADDPS`.
 #[derive(Clone, Copy, PartialEq, Eq, Default)]

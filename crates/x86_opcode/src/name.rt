@@ -40,7 +40,7 @@ impl Opcode {
     }
 }
 
-// The hash of a name.
+/// The hash of a name.
 fn hash(name: &[u8]) -> u32
     ensures value { result ≡ hash name.now }
     ensures below { result < 1048576 }
@@ -52,7 +52,7 @@ fn hash(name: &[u8]) -> u32
     sum
 }
 
-// How far the names of a bucket are moved on.
+/// How far the names of a bucket are moved on.
 #[tactic(auto, unfolding(crate::specs::Slots::shift_at))]
 fn shift_at(bucket: usize) -> u16
     requires { bucket < 256 }
@@ -61,7 +61,7 @@ fn shift_at(bucket: usize) -> u16
     SHIFTS[bucket]
 }
 
-// The opcode on a slot.
+/// The opcode on a slot.
 #[tactic(auto, unfolding(crate::specs::Slots::opcode_at))]
 fn opcode_at(slot: usize) -> Opcode
     requires { slot < 768 }
@@ -70,7 +70,7 @@ fn opcode_at(slot: usize) -> Opcode
     SLOTS[slot]
 }
 
-// The slot on which the opcode of a name stands, where there is one.
+/// The slot on which the opcode of a name stands, where there is one.
 #[tactic(auto, unfolding(crate::specs::Slots::slot))]
 fn slot(name: &[u8]) -> usize
     ensures value { result ≡ slot name.now }

@@ -1,4 +1,5 @@
-use crate::{Condition, Opcode, constants_have_their_names};
+use crate::laws::constants_have_their_names;
+use crate::{Condition, Opcode};
 use std::process::Abort;
 use std::test::Fail;
 

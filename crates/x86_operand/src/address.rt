@@ -125,7 +125,7 @@ impl Operand {
         }
     }
 
-    // The operand in the form in which an instruction keeps it.
+    /// The operand in the form in which an instruction keeps it.
     pub(crate) fn kept(&self) -> Operand
         ensures { result ≡ kept_operand (operand_meaning self.now) }
     {

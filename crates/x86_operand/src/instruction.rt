@@ -12,7 +12,7 @@ use std::marker::Model;
 use x86_opcode::Opcode;
 
 /// The number of operands that an instruction has at most.
-const MAX_OPERANDS: usize = 4;
+pub const MAX_OPERANDS: usize = 4;
 
 /// An instruction: an EVEX mark, an opcode, up to four operands, the size of its memory operand,
 /// and the number of bytes that spelled it.
@@ -111,7 +111,7 @@ impl Instruction {
         self.set_len(0);
     }
 
-    // Takes all operands away. Where there are none, each place holds `Nothing` already.
+    /// Takes all operands away. Where there are none, each place holds `Nothing` already.
     #[tactic(auto, unfolding(crate::specs::Instruction::four_places))]
     fn clear_operands(&mut self)
         ensures { self.new ≡ record self.old { meaning = record self.old.meaning { operands = [] } } }
@@ -263,7 +263,7 @@ impl Instruction {
             && self.mem_size == other.mem_size
     }
 
-    // The operands, up to the count.
+    /// The operands, up to the count.
     fn operands(&self) -> &[Operand]
         ensures { map operand_meaning result.now ≡ self.now.meaning.operands }
     {
@@ -296,7 +296,7 @@ impl Eq for Instruction {
     ghost laws = { decided same_decoded same_decoded_decides };
 }
 
-// The four places of an instruction with these operands, each in the form in which it is kept.
+/// The four places of an instruction with these operands, each in the form in which it is kept.
 #[tactic(auto, unfolding(crate::specs::Instruction::four_places))]
 fn kept(operands: &[Operand]) -> [Operand; MAX_OPERANDS]
     ensures { result ≡ four_places (map operand_meaning operands.now) }
@@ -309,7 +309,7 @@ fn kept(operands: &[Operand]) -> [Operand; MAX_OPERANDS]
     ]
 }
 
-// The operand at place `i` in the form in which it is kept, or `Nothing` past the end.
+/// The operand at place `i` in the form in which it is kept, or `Nothing` past the end.
 fn kept_at(operands: &[Operand], i: usize) -> Operand
     ensures { result ≡ kept_operand (operand_at (map operand_meaning operands.now) i) }
 {

@@ -35,14 +35,14 @@ pub fn instruction_in_range(inst: Instruction)
     memory_in_range(&inst);
 }
 
-// What stands at a place is in range.
+/// What stands at a place is in range.
 fn place_in_range(inst: &Instruction, i: u8)
     ensures { IsOperand (operand_at inst.now.meaning.operands i) }
 {
     operand_in_range(inst.operand(i));
 }
 
-// The size of the memory operand, where there is one, is in range.
+/// The size of the memory operand, where there is one, is in range.
 fn memory_in_range(inst: &Instruction)
     ensures { IfSome inst.now.meaning.size (λ n. (1 ≤ n) × (n ≤ 64)) }
 {

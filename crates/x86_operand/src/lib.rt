@@ -25,7 +25,7 @@ mod error;
 #[cfg(test)]
 mod example;
 mod instruction;
-mod laws;
+pub mod laws;
 mod note;
 mod register;
 mod size;
@@ -34,8 +34,7 @@ mod tests;
 
 pub use address::{Address, Index, Operand};
 pub use error::{DecodeError, EncodeError};
-pub use instruction::Instruction;
-pub use laws::{instruction_in_range, operand_in_range, size_in_range};
+pub use instruction::{Instruction, MAX_OPERANDS};
 pub use note::{FieldDescription, InnerDescription, Note};
 pub use register::{RegSpec, RegisterBank};
 pub use size::MemoryAccessSize;

@@ -23,7 +23,7 @@ pub enum RegisterBank {
 }
 
 impl RegisterBank {
-    // The number of the bank's last register.
+    /// The number of the bank's last register.
     fn greatest(self) -> u8
         ensures { result ≡ greatest self }
     {

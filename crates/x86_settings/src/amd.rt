@@ -5,6 +5,7 @@ ghost use Rattle.x86_settings.specs.Bits.{is_set, with_set};
 ghost use Rattle.x86_settings.specs.Settings.{_3dnow, _3dnowprefetch, abm, fma4, skinit, sse4a, svm, tbm, xop};
 ghost use Rattle.x86_settings.specs.Settings.{monitorx, clzero};
 
+use crate::bits;
 use crate::decoder::InstDecoder;
 
 impl InstDecoder {
@@ -12,7 +13,7 @@ impl InstDecoder {
     pub fn _3dnow(&self) -> bool
         ensures { result ≡ is_set self.now _3dnow }
     {
-        self.bit(1)
+        self.bit(bits::_3DNOW)
     }
 
     /// These settings with 3DNow!, the setter of `_3dnow`.
@@ -20,14 +21,14 @@ impl InstDecoder {
         ensures set { result ≡ with_set self _3dnow }
         ensures long { length result ≡ 128 }
     {
-        self.with_bit(1)
+        self.with_bit(bits::_3DNOW)
     }
 
     /// 3DNow! prefetch: PREFETCH and PREFETCHW.
     pub fn _3dnowprefetch(&self) -> bool
         ensures { result ≡ is_set self.now _3dnowprefetch }
     {
-        self.bit(2)
+        self.bit(bits::_3DNOWPREFETCH)
     }
 
     /// These settings with 3DNow! prefetch, the setter of `_3dnowprefetch`.
@@ -35,14 +36,14 @@ impl InstDecoder {
         ensures set { result ≡ with_set self _3dnowprefetch }
         ensures long { length result ≡ 128 }
     {
-        self.with_bit(2)
+        self.with_bit(bits::_3DNOWPREFETCH)
     }
 
     /// ABM, which LZCNT needs beside `lzcnt` where `amd_quirks` is set. POPCNT doesn't read it.
     pub fn abm(&self) -> bool
         ensures { result ≡ is_set self.now abm }
     {
-        self.bit(3)
+        self.bit(bits::ABM)
     }
 
     /// These settings with ABM.
@@ -50,14 +51,14 @@ impl InstDecoder {
         ensures set { result ≡ with_set self abm }
         ensures long { length result ≡ 128 }
     {
-        self.with_bit(3)
+        self.with_bit(bits::ABM)
     }
 
     /// FMA4: AMD's fused multiply and add of four operands, as VFMADDPS.
     pub fn fma4(&self) -> bool
         ensures { result ≡ is_set self.now fma4 }
     {
-        self.bit(34)
+        self.bit(bits::FMA4)
     }
 
     /// These settings with FMA4.
@@ -65,14 +66,14 @@ impl InstDecoder {
         ensures set { result ≡ with_set self fma4 }
         ensures long { length result ≡ 128 }
     {
-        self.with_bit(34)
+        self.with_bit(bits::FMA4)
     }
 
     /// SKINIT: SKINIT and STGI.
     pub fn skinit(&self) -> bool
         ensures { result ≡ is_set self.now skinit }
     {
-        self.bit(53)
+        self.bit(bits::SKINIT)
     }
 
     /// These settings with SKINIT.
@@ -80,14 +81,14 @@ impl InstDecoder {
         ensures set { result ≡ with_set self skinit }
         ensures long { length result ≡ 128 }
     {
-        self.with_bit(53)
+        self.with_bit(bits::SKINIT)
     }
 
     /// SSE4a: AMD's EXTRQ, INSERTQ, MOVNTSD and MOVNTSS.
     pub fn sse4a(&self) -> bool
         ensures { result ≡ is_set self.now sse4a }
     {
-        self.bit(57)
+        self.bit(bits::SSE4A)
     }
 
     /// These settings with SSE4a.
@@ -95,14 +96,14 @@ impl InstDecoder {
         ensures set { result ≡ with_set self sse4a }
         ensures long { length result ≡ 128 }
     {
-        self.with_bit(57)
+        self.with_bit(bits::SSE4A)
     }
 
     /// SVM: AMD's virtual machines, as VMRUN, VMLOAD, VMSAVE and CLGI.
     pub fn svm(&self) -> bool
         ensures { result ≡ is_set self.now svm }
     {
-        self.bit(59)
+        self.bit(bits::SVM)
     }
 
     /// These settings with SVM.
@@ -110,14 +111,14 @@ impl InstDecoder {
         ensures set { result ≡ with_set self svm }
         ensures long { length result ≡ 128 }
     {
-        self.with_bit(59)
+        self.with_bit(bits::SVM)
     }
 
     /// TBM: AMD's trailing bits, as BLCFILL, BLSFILL and TZMSK.
     pub fn tbm(&self) -> bool
         ensures { result ≡ is_set self.now tbm }
     {
-        self.bit(61)
+        self.bit(bits::TBM)
     }
 
     /// These settings with TBM.
@@ -125,14 +126,14 @@ impl InstDecoder {
         ensures set { result ≡ with_set self tbm }
         ensures long { length result ≡ 128 }
     {
-        self.with_bit(61)
+        self.with_bit(bits::TBM)
     }
 
     /// XOP: AMD's vector instructions with an XOP prefix.
     pub fn xop(&self) -> bool
         ensures { result ≡ is_set self.now xop }
     {
-        self.bit(65)
+        self.bit(bits::XOP)
     }
 
     /// These settings with XOP.
@@ -140,14 +141,14 @@ impl InstDecoder {
         ensures set { result ≡ with_set self xop }
         ensures long { length result ≡ 128 }
     {
-        self.with_bit(65)
+        self.with_bit(bits::XOP)
     }
 
     /// MONITORX. It decides nothing: MONITORX and MWAITX are permitted by `amd_quirks`.
     pub fn monitorx(&self) -> bool
         ensures { result ≡ is_set self.now monitorx }
     {
-        self.bit(71)
+        self.bit(bits::MONITORX)
     }
 
     /// These settings with MONITORX.
@@ -155,14 +156,14 @@ impl InstDecoder {
         ensures set { result ≡ with_set self monitorx }
         ensures long { length result ≡ 128 }
     {
-        self.with_bit(71)
+        self.with_bit(bits::MONITORX)
     }
 
     /// CLZERO. It decides nothing: the instruction is permitted by `amd_quirks`. Shares its bit with `wbnoinvd`.
     pub fn clzero(&self) -> bool
         ensures { result ≡ is_set self.now clzero }
     {
-        self.bit(72)
+        self.bit(bits::CLZERO)
     }
 
     /// These settings with CLZERO, and so with `wbnoinvd`.
@@ -170,6 +171,6 @@ impl InstDecoder {
         ensures set { result ≡ with_set self clzero }
         ensures long { length result ≡ 128 }
     {
-        self.with_bit(72)
+        self.with_bit(bits::CLZERO)
     }
 }

@@ -5,6 +5,7 @@ ghost use Rattle.x86_settings.specs.Bits.{is_set, with_set};
 ghost use Rattle.x86_settings.specs.Settings.{amx, amx_bf16, amx_tile, amx_int8, amx_fp16, amx_ifma, amx_ne_convert};
 ghost use Rattle.x86_settings.specs.Settings.{amx_vnni_int8, amx_complex, amx_vnni_int16, amx_movrs, amx_fp8, amx_tf32};
 
+use crate::bits;
 use crate::decoder::InstDecoder;
 
 impl InstDecoder {
@@ -12,7 +13,7 @@ impl InstDecoder {
     pub fn amx(&self) -> bool
         ensures { result ≡ is_set self.now amx }
     {
-        self.bit(77)
+        self.bit(bits::AMX)
     }
 
     /// These settings with AMX.
@@ -20,14 +21,14 @@ impl InstDecoder {
         ensures set { result ≡ with_set self amx }
         ensures long { length result ≡ 128 }
     {
-        self.with_bit(77)
+        self.with_bit(bits::AMX)
     }
 
     /// AMX-BF16: TDPBF16PS.
     pub fn amx_bf16(&self) -> bool
         ensures { result ≡ is_set self.now amx_bf16 }
     {
-        self.bit(78)
+        self.bit(bits::AMX_BF16)
     }
 
     /// These settings with AMX-BF16.
@@ -35,14 +36,14 @@ impl InstDecoder {
         ensures set { result ≡ with_set self amx_bf16 }
         ensures long { length result ≡ 128 }
     {
-        self.with_bit(78)
+        self.with_bit(bits::AMX_BF16)
     }
 
     /// AMX-TILE: LDTILECFG, STTILECFG, TILELOADD, TILESTORED, TILEZERO and their like.
     pub fn amx_tile(&self) -> bool
         ensures { result ≡ is_set self.now amx_tile }
     {
-        self.bit(79)
+        self.bit(bits::AMX_TILE)
     }
 
     /// These settings with AMX-TILE.
@@ -50,14 +51,14 @@ impl InstDecoder {
         ensures set { result ≡ with_set self amx_tile }
         ensures long { length result ≡ 128 }
     {
-        self.with_bit(79)
+        self.with_bit(bits::AMX_TILE)
     }
 
     /// AMX-INT8: TDPBSSD, TDPBSUD, TDPBUSD and TDPBUUD.
     pub fn amx_int8(&self) -> bool
         ensures { result ≡ is_set self.now amx_int8 }
     {
-        self.bit(80)
+        self.bit(bits::AMX_INT8)
     }
 
     /// These settings with AMX-INT8.
@@ -65,14 +66,14 @@ impl InstDecoder {
         ensures set { result ≡ with_set self amx_int8 }
         ensures long { length result ≡ 128 }
     {
-        self.with_bit(80)
+        self.with_bit(bits::AMX_INT8)
     }
 
     /// AMX-FP16: TDPFP16PS.
     pub fn amx_fp16(&self) -> bool
         ensures { result ≡ is_set self.now amx_fp16 }
     {
-        self.bit(81)
+        self.bit(bits::AMX_FP16)
     }
 
     /// These settings with AMX-FP16.
@@ -80,14 +81,14 @@ impl InstDecoder {
         ensures set { result ≡ with_set self amx_fp16 }
         ensures long { length result ≡ 128 }
     {
-        self.with_bit(81)
+        self.with_bit(bits::AMX_FP16)
     }
 
     /// AMX-IFMA: fused multiply and add of integers.
     pub fn amx_ifma(&self) -> bool
         ensures { result ≡ is_set self.now amx_ifma }
     {
-        self.bit(82)
+        self.bit(bits::AMX_IFMA)
     }
 
     /// These settings with AMX-IFMA.
@@ -95,14 +96,14 @@ impl InstDecoder {
         ensures set { result ≡ with_set self amx_ifma }
         ensures long { length result ≡ 128 }
     {
-        self.with_bit(82)
+        self.with_bit(bits::AMX_IFMA)
     }
 
     /// AMX-NE-CONVERT: conversions that raise no exception.
     pub fn amx_ne_convert(&self) -> bool
         ensures { result ≡ is_set self.now amx_ne_convert }
     {
-        self.bit(83)
+        self.bit(bits::AMX_NE_CONVERT)
     }
 
     /// These settings with AMX-NE-CONVERT.
@@ -110,7 +111,7 @@ impl InstDecoder {
         ensures set { result ≡ with_set self amx_ne_convert }
         ensures long { length result ≡ 128 }
     {
-        self.with_bit(83)
+        self.with_bit(bits::AMX_NE_CONVERT)
     }
 
     /// AMX-VNNI-INT8: dot products of bytes.
@@ -118,7 +119,7 @@ impl InstDecoder {
     pub fn amx_vnni_int8(&self) -> bool
         ensures { result ≡ is_set self.now amx_vnni_int8 }
     {
-        self.bit(84)
+        self.bit(bits::AMX_VNNI_INT8)
     }
 
     /// These settings with AMX-VNNI-INT8, and so with `amx_complex` and `amx_vnni_int16`.
@@ -126,7 +127,7 @@ impl InstDecoder {
         ensures set { result ≡ with_set self amx_vnni_int8 }
         ensures long { length result ≡ 128 }
     {
-        self.with_bit(84)
+        self.with_bit(bits::AMX_VNNI_INT8)
     }
 
     /// AMX-COMPLEX: TCMMIMFP16PS and TCMMRLFP16PS.
@@ -134,7 +135,7 @@ impl InstDecoder {
     pub fn amx_complex(&self) -> bool
         ensures { result ≡ is_set self.now amx_complex }
     {
-        self.bit(84)
+        self.bit(bits::AMX_COMPLEX)
     }
 
     /// These settings with AMX-COMPLEX, and so with `amx_vnni_int8` and `amx_vnni_int16`.
@@ -142,7 +143,7 @@ impl InstDecoder {
         ensures set { result ≡ with_set self amx_complex }
         ensures long { length result ≡ 128 }
     {
-        self.with_bit(84)
+        self.with_bit(bits::AMX_COMPLEX)
     }
 
     /// AMX-VNNI-INT16: dot products of words.
@@ -150,7 +151,7 @@ impl InstDecoder {
     pub fn amx_vnni_int16(&self) -> bool
         ensures { result ≡ is_set self.now amx_vnni_int16 }
     {
-        self.bit(84)
+        self.bit(bits::AMX_VNNI_INT16)
     }
 
     /// These settings with AMX-VNNI-INT16, and so with `amx_vnni_int8` and `amx_complex`.
@@ -158,14 +159,14 @@ impl InstDecoder {
         ensures set { result ≡ with_set self amx_vnni_int16 }
         ensures long { length result ≡ 128 }
     {
-        self.with_bit(84)
+        self.with_bit(bits::AMX_VNNI_INT16)
     }
 
     /// AMX-MOVRS: TILELOADDRS and TILELOADDRST1.
     pub fn amx_movrs(&self) -> bool
         ensures { result ≡ is_set self.now amx_movrs }
     {
-        self.bit(85)
+        self.bit(bits::AMX_MOVRS)
     }
 
     /// These settings with AMX-MOVRS, the setter of `amx_movrs`.
@@ -173,14 +174,14 @@ impl InstDecoder {
         ensures set { result ≡ with_set self amx_movrs }
         ensures long { length result ≡ 128 }
     {
-        self.with_bit(85)
+        self.with_bit(bits::AMX_MOVRS)
     }
 
     /// AMX-FP8: TDPBF8PS, TDPBHF8PS, TDPHBF8PS and TDPHF8PS.
     pub fn amx_fp8(&self) -> bool
         ensures { result ≡ is_set self.now amx_fp8 }
     {
-        self.bit(86)
+        self.bit(bits::AMX_FP8)
     }
 
     /// These settings with AMX-FP8.
@@ -188,14 +189,14 @@ impl InstDecoder {
         ensures set { result ≡ with_set self amx_fp8 }
         ensures long { length result ≡ 128 }
     {
-        self.with_bit(86)
+        self.with_bit(bits::AMX_FP8)
     }
 
     /// AMX-TF32: TMMULTF32PS.
     pub fn amx_tf32(&self) -> bool
         ensures { result ≡ is_set self.now amx_tf32 }
     {
-        self.bit(87)
+        self.bit(bits::AMX_TF32)
     }
 
     /// These settings with AMX-TF32.
@@ -203,6 +204,6 @@ impl InstDecoder {
         ensures set { result ≡ with_set self amx_tf32 }
         ensures long { length result ≡ 128 }
     {
-        self.with_bit(87)
+        self.with_bit(bits::AMX_TF32)
     }
 }

@@ -4,6 +4,7 @@ ghost use Rattle.std.specs.Prelude.{◌≡◌, length};
 ghost use Rattle.x86_settings.specs.Bits.{is_set, with_set};
 ghost use Rattle.x86_settings.specs.Settings.{avx, avx2, avx_vnni, f16c, fma3};
 
+use crate::bits;
 use crate::decoder::InstDecoder;
 
 impl InstDecoder {
@@ -11,7 +12,7 @@ impl InstDecoder {
     pub fn avx(&self) -> bool
         ensures { result ≡ is_set self.now avx }
     {
-        self.bit(7)
+        self.bit(bits::AVX)
     }
 
     /// These settings with AVX.
@@ -19,14 +20,14 @@ impl InstDecoder {
         ensures set { result ≡ with_set self avx }
         ensures long { length result ≡ 128 }
     {
-        self.with_bit(7)
+        self.with_bit(bits::AVX)
     }
 
     /// AVX2: integers in vectors of 256 bits, and gathers. No condition reads it: these opcodes need `avx` alone.
     pub fn avx2(&self) -> bool
         ensures { result ≡ is_set self.now avx2 }
     {
-        self.bit(8)
+        self.bit(bits::AVX2)
     }
 
     /// These settings with AVX2.
@@ -34,14 +35,14 @@ impl InstDecoder {
         ensures set { result ≡ with_set self avx2 }
         ensures long { length result ≡ 128 }
     {
-        self.with_bit(8)
+        self.with_bit(bits::AVX2)
     }
 
     /// AVX-VNNI: VPDPBUSD, VPDPBUSDS, VPDPWSSD and VPDPWSSDS with a VEX prefix.
     pub fn avx_vnni(&self) -> bool
         ensures { result ≡ is_set self.now avx_vnni }
     {
-        self.bit(24)
+        self.bit(bits::AVX_VNNI)
     }
 
     /// These settings with AVX-VNNI.
@@ -49,14 +50,14 @@ impl InstDecoder {
         ensures set { result ≡ with_set self avx_vnni }
         ensures long { length result ≡ 128 }
     {
-        self.with_bit(24)
+        self.with_bit(bits::AVX_VNNI)
     }
 
     /// F16C: VCVTPH2PS and VCVTPS2PH.
     pub fn f16c(&self) -> bool
         ensures { result ≡ is_set self.now f16c }
     {
-        self.bit(32)
+        self.bit(bits::F16C)
     }
 
     /// These settings with F16C.
@@ -64,7 +65,7 @@ impl InstDecoder {
         ensures set { result ≡ with_set self f16c }
         ensures long { length result ≡ 128 }
     {
-        self.with_bit(32)
+        self.with_bit(bits::F16C)
     }
 
     /// FMA3: fused multiply and add of three operands, as VFMADD132PS. No condition reads it: these opcodes need `avx`
@@ -72,7 +73,7 @@ impl InstDecoder {
     pub fn fma3(&self) -> bool
         ensures { result ≡ is_set self.now fma3 }
     {
-        self.bit(33)
+        self.bit(bits::FMA3)
     }
 
     /// These settings with FMA3.
@@ -80,6 +81,6 @@ impl InstDecoder {
         ensures set { result ≡ with_set self fma3 }
         ensures long { length result ≡ 128 }
     {
-        self.with_bit(33)
+        self.with_bit(bits::FMA3)
     }
 }

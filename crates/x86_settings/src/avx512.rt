@@ -9,6 +9,7 @@ ghost use Rattle.x86_settings.specs.Settings.{avx512_gfni, avx512_vpclmulqdq, av
 ghost use Rattle.x86_settings.specs.Sets.{all_set, with_all_set};
 ghost use Rattle.x86_settings.specs.Composites.{avx512, avx10_1};
 
+use crate::bits;
 use crate::decoder::InstDecoder;
 
 impl InstDecoder {
@@ -16,7 +17,7 @@ impl InstDecoder {
     pub fn avx512_4fmaps(&self) -> bool
         ensures { result ≡ is_set self.now avx512_4fmaps }
     {
-        self.bit(10)
+        self.bit(bits::AVX512_4FMAPS)
     }
 
     /// These settings with AVX512_4FMAPS.
@@ -24,14 +25,14 @@ impl InstDecoder {
         ensures set { result ≡ with_set self avx512_4fmaps }
         ensures long { length result ≡ 128 }
     {
-        self.with_bit(10)
+        self.with_bit(bits::AVX512_4FMAPS)
     }
 
     /// AVX512_4VNNIW: VP4DPWSSD and VP4DPWSSDS.
     pub fn avx512_4vnniw(&self) -> bool
         ensures { result ≡ is_set self.now avx512_4vnniw }
     {
-        self.bit(11)
+        self.bit(bits::AVX512_4VNNIW)
     }
 
     /// These settings with AVX512_4VNNIW.
@@ -39,14 +40,14 @@ impl InstDecoder {
         ensures set { result ≡ with_set self avx512_4vnniw }
         ensures long { length result ≡ 128 }
     {
-        self.with_bit(11)
+        self.with_bit(bits::AVX512_4VNNIW)
     }
 
     /// AVX512_BITALG: VPOPCNTB, VPOPCNTW and VPSHUFBITQMB.
     pub fn avx512_bitalg(&self) -> bool
         ensures { result ≡ is_set self.now avx512_bitalg }
     {
-        self.bit(12)
+        self.bit(bits::AVX512_BITALG)
     }
 
     /// These settings with AVX512_BITALG.
@@ -54,14 +55,14 @@ impl InstDecoder {
         ensures set { result ≡ with_set self avx512_bitalg }
         ensures long { length result ≡ 128 }
     {
-        self.with_bit(12)
+        self.with_bit(bits::AVX512_BITALG)
     }
 
     /// AVX512BW: bytes and words.
     pub fn avx512_bw(&self) -> bool
         ensures { result ≡ is_set self.now avx512_bw }
     {
-        self.bit(13)
+        self.bit(bits::AVX512_BW)
     }
 
     /// These settings with AVX512BW.
@@ -69,14 +70,14 @@ impl InstDecoder {
         ensures set { result ≡ with_set self avx512_bw }
         ensures long { length result ≡ 128 }
     {
-        self.with_bit(13)
+        self.with_bit(bits::AVX512_BW)
     }
 
     /// AVX512CD: conflict detection, as VPCONFLICTD and VPLZCNTD.
     pub fn avx512_cd(&self) -> bool
         ensures { result ≡ is_set self.now avx512_cd }
     {
-        self.bit(14)
+        self.bit(bits::AVX512_CD)
     }
 
     /// These settings with AVX512CD.
@@ -84,14 +85,14 @@ impl InstDecoder {
         ensures set { result ≡ with_set self avx512_cd }
         ensures long { length result ≡ 128 }
     {
-        self.with_bit(14)
+        self.with_bit(bits::AVX512_CD)
     }
 
     /// AVX512DQ: doublewords and quadwords.
     pub fn avx512_dq(&self) -> bool
         ensures { result ≡ is_set self.now avx512_dq }
     {
-        self.bit(15)
+        self.bit(bits::AVX512_DQ)
     }
 
     /// These settings with AVX512DQ.
@@ -99,14 +100,14 @@ impl InstDecoder {
         ensures set { result ≡ with_set self avx512_dq }
         ensures long { length result ≡ 128 }
     {
-        self.with_bit(15)
+        self.with_bit(bits::AVX512_DQ)
     }
 
     /// AVX512ER: VEXP2PS, VRCP28PS, VRSQRT28PS and their like.
     pub fn avx512_er(&self) -> bool
         ensures { result ≡ is_set self.now avx512_er }
     {
-        self.bit(16)
+        self.bit(bits::AVX512_ER)
     }
 
     /// These settings with AVX512ER.
@@ -114,14 +115,14 @@ impl InstDecoder {
         ensures set { result ≡ with_set self avx512_er }
         ensures long { length result ≡ 128 }
     {
-        self.with_bit(16)
+        self.with_bit(bits::AVX512_ER)
     }
 
     /// AVX512F: the foundation of AVX-512.
     pub fn avx512_f(&self) -> bool
         ensures { result ≡ is_set self.now avx512_f }
     {
-        self.bit(17)
+        self.bit(bits::AVX512_F)
     }
 
     /// These settings with AVX512F.
@@ -129,14 +130,14 @@ impl InstDecoder {
         ensures set { result ≡ with_set self avx512_f }
         ensures long { length result ≡ 128 }
     {
-        self.with_bit(17)
+        self.with_bit(bits::AVX512_F)
     }
 
     /// AVX512_FMA: fused multiply and add.
     pub fn avx512_fma(&self) -> bool
         ensures { result ≡ is_set self.now avx512_fma }
     {
-        self.bit(18)
+        self.bit(bits::AVX512_FMA)
     }
 
     /// These settings with AVX512_FMA.
@@ -144,14 +145,14 @@ impl InstDecoder {
         ensures set { result ≡ with_set self avx512_fma }
         ensures long { length result ≡ 128 }
     {
-        self.with_bit(18)
+        self.with_bit(bits::AVX512_FMA)
     }
 
     /// AVX512PF: prefetches by gather and scatter.
     pub fn avx512_pf(&self) -> bool
         ensures { result ≡ is_set self.now avx512_pf }
     {
-        self.bit(19)
+        self.bit(bits::AVX512_PF)
     }
 
     /// These settings with AVX512PF.
@@ -159,14 +160,14 @@ impl InstDecoder {
         ensures set { result ≡ with_set self avx512_pf }
         ensures long { length result ≡ 128 }
     {
-        self.with_bit(19)
+        self.with_bit(bits::AVX512_PF)
     }
 
     /// AVX512_VBMI: VPERMB, VPERMI2B, VPERMT2B and VPMULTISHIFTQB.
     pub fn avx512_vbmi(&self) -> bool
         ensures { result ≡ is_set self.now avx512_vbmi }
     {
-        self.bit(20)
+        self.bit(bits::AVX512_VBMI)
     }
 
     /// These settings with AVX512_VBMI.
@@ -174,14 +175,14 @@ impl InstDecoder {
         ensures set { result ≡ with_set self avx512_vbmi }
         ensures long { length result ≡ 128 }
     {
-        self.with_bit(20)
+        self.with_bit(bits::AVX512_VBMI)
     }
 
     /// AVX512_VBMI2: VPCOMPRESSB, VPEXPANDB, VPSHLDD, VPSHRDD and their like.
     pub fn avx512_vbmi2(&self) -> bool
         ensures { result ≡ is_set self.now avx512_vbmi2 }
     {
-        self.bit(21)
+        self.bit(bits::AVX512_VBMI2)
     }
 
     /// These settings with AVX512_VBMI2.
@@ -189,14 +190,14 @@ impl InstDecoder {
         ensures set { result ≡ with_set self avx512_vbmi2 }
         ensures long { length result ≡ 128 }
     {
-        self.with_bit(21)
+        self.with_bit(bits::AVX512_VBMI2)
     }
 
     /// AVX512VL: AVX-512 on vectors of 128 and 256 bits.
     pub fn avx512_vl(&self) -> bool
         ensures { result ≡ is_set self.now avx512_vl }
     {
-        self.bit(22)
+        self.bit(bits::AVX512_VL)
     }
 
     /// These settings with AVX512VL.
@@ -204,14 +205,14 @@ impl InstDecoder {
         ensures set { result ≡ with_set self avx512_vl }
         ensures long { length result ≡ 128 }
     {
-        self.with_bit(22)
+        self.with_bit(bits::AVX512_VL)
     }
 
     /// AVX512_VPOPCNTDQ: VPOPCNTD and VPOPCNTQ.
     pub fn avx512_vpopcntdq(&self) -> bool
         ensures { result ≡ is_set self.now avx512_vpopcntdq }
     {
-        self.bit(23)
+        self.bit(bits::AVX512_VPOPCNTDQ)
     }
 
     /// These settings with AVX512_VPOPCNTDQ.
@@ -219,14 +220,14 @@ impl InstDecoder {
         ensures set { result ≡ with_set self avx512_vpopcntdq }
         ensures long { length result ≡ 128 }
     {
-        self.with_bit(23)
+        self.with_bit(bits::AVX512_VPOPCNTDQ)
     }
 
     /// AVX512_FP16: floats of 16 bits.
     pub fn avx512_fp16(&self) -> bool
         ensures { result ≡ is_set self.now avx512_fp16 }
     {
-        self.bit(104)
+        self.bit(bits::AVX512_FP16)
     }
 
     /// These settings with AVX512_FP16.
@@ -234,14 +235,14 @@ impl InstDecoder {
         ensures set { result ≡ with_set self avx512_fp16 }
         ensures long { length result ≡ 128 }
     {
-        self.with_bit(104)
+        self.with_bit(bits::AVX512_FP16)
     }
 
     /// VAES under AVX-512: VAESDEC, VAESENC and their like with an EVEX prefix.
     pub fn avx512_vaes(&self) -> bool
         ensures { result ≡ is_set self.now avx512_vaes }
     {
-        self.bit(105)
+        self.bit(bits::AVX512_VAES)
     }
 
     /// These settings with VAES under AVX-512.
@@ -249,14 +250,14 @@ impl InstDecoder {
         ensures set { result ≡ with_set self avx512_vaes }
         ensures long { length result ≡ 128 }
     {
-        self.with_bit(105)
+        self.with_bit(bits::AVX512_VAES)
     }
 
     /// GFNI under AVX-512: VGF2P8AFFINEQB, VGF2P8MULB and their like with an EVEX prefix.
     pub fn avx512_gfni(&self) -> bool
         ensures { result ≡ is_set self.now avx512_gfni }
     {
-        self.bit(106)
+        self.bit(bits::AVX512_GFNI)
     }
 
     /// These settings with GFNI under AVX-512.
@@ -264,14 +265,14 @@ impl InstDecoder {
         ensures set { result ≡ with_set self avx512_gfni }
         ensures long { length result ≡ 128 }
     {
-        self.with_bit(106)
+        self.with_bit(bits::AVX512_GFNI)
     }
 
     /// VPCLMULQDQ under AVX-512: VPCLMULQDQ with an EVEX prefix.
     pub fn avx512_vpclmulqdq(&self) -> bool
         ensures { result ≡ is_set self.now avx512_vpclmulqdq }
     {
-        self.bit(107)
+        self.bit(bits::AVX512_VPCLMULQDQ)
     }
 
     /// These settings with VPCLMULQDQ under AVX-512.
@@ -279,14 +280,14 @@ impl InstDecoder {
         ensures set { result ≡ with_set self avx512_vpclmulqdq }
         ensures long { length result ≡ 128 }
     {
-        self.with_bit(107)
+        self.with_bit(bits::AVX512_VPCLMULQDQ)
     }
 
     /// AVX512_BF16: VCVTNE2PS2BF16, VCVTNEPS2BF16 and VDPBF16PS.
     pub fn avx512_bf16(&self) -> bool
         ensures { result ≡ is_set self.now avx512_bf16 }
     {
-        self.bit(108)
+        self.bit(bits::AVX512_BF16)
     }
 
     /// These settings with AVX512_BF16.
@@ -294,14 +295,14 @@ impl InstDecoder {
         ensures set { result ≡ with_set self avx512_bf16 }
         ensures long { length result ≡ 128 }
     {
-        self.with_bit(108)
+        self.with_bit(bits::AVX512_BF16)
     }
 
     /// AVX512_VNNI: VPDPBUSD, VPDPBUSDS, VPDPWSSD and VPDPWSSDS with an EVEX prefix.
     pub fn avx512_vnni(&self) -> bool
         ensures { result ≡ is_set self.now avx512_vnni }
     {
-        self.bit(109)
+        self.bit(bits::AVX512_VNNI)
     }
 
     /// These settings with AVX512_VNNI.
@@ -309,14 +310,14 @@ impl InstDecoder {
         ensures set { result ≡ with_set self avx512_vnni }
         ensures long { length result ≡ 128 }
     {
-        self.with_bit(109)
+        self.with_bit(bits::AVX512_VNNI)
     }
 
     /// AVX512_IFMA: VPMADD52HUQ and VPMADD52LUQ.
     pub fn avx512_ifma(&self) -> bool
         ensures { result ≡ is_set self.now avx512_ifma }
     {
-        self.bit(110)
+        self.bit(bits::AVX512_IFMA)
     }
 
     /// These settings with AVX512_IFMA.
@@ -324,7 +325,7 @@ impl InstDecoder {
         ensures set { result ≡ with_set self avx512_ifma }
         ensures long { length result ≡ 128 }
     {
-        self.with_bit(110)
+        self.with_bit(bits::AVX512_IFMA)
     }
 
     /// AVX-512: all parts from `avx512_4fmaps` to `avx512_vpopcntdq`. Those from `avx512_fp16` on

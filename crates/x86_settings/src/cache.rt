@@ -4,6 +4,7 @@ ghost use Rattle.std.specs.Prelude.{◌≡◌, length};
 ghost use Rattle.x86_settings.specs.Bits.{is_set, with_set};
 ghost use Rattle.x86_settings.specs.Settings.{clflushopt, clwb, pcommit, prefetchw, prefetchwt1, wbnoinvd};
 
+use crate::bits;
 use crate::decoder::InstDecoder;
 
 impl InstDecoder {
@@ -11,7 +12,7 @@ impl InstDecoder {
     pub fn clflushopt(&self) -> bool
         ensures { result ≡ is_set self.now clflushopt }
     {
-        self.bit(27)
+        self.bit(bits::CLFLUSHOPT)
     }
 
     /// These settings with CLFLUSHOPT.
@@ -19,14 +20,14 @@ impl InstDecoder {
         ensures set { result ≡ with_set self clflushopt }
         ensures long { length result ≡ 128 }
     {
-        self.with_bit(27)
+        self.with_bit(bits::CLFLUSHOPT)
     }
 
     /// CLWB.
     pub fn clwb(&self) -> bool
         ensures { result ≡ is_set self.now clwb }
     {
-        self.bit(28)
+        self.bit(bits::CLWB)
     }
 
     /// These settings with CLWB.
@@ -34,14 +35,14 @@ impl InstDecoder {
         ensures set { result ≡ with_set self clwb }
         ensures long { length result ≡ 128 }
     {
-        self.with_bit(28)
+        self.with_bit(bits::CLWB)
     }
 
     /// PCOMMIT.
     pub fn pcommit(&self) -> bool
         ensures { result ≡ is_set self.now pcommit }
     {
-        self.bit(44)
+        self.bit(bits::PCOMMIT)
     }
 
     /// These settings with PCOMMIT.
@@ -49,14 +50,14 @@ impl InstDecoder {
         ensures set { result ≡ with_set self pcommit }
         ensures long { length result ≡ 128 }
     {
-        self.with_bit(44)
+        self.with_bit(bits::PCOMMIT)
     }
 
     /// PREFETCHW.
     pub fn prefetchw(&self) -> bool
         ensures { result ≡ is_set self.now prefetchw }
     {
-        self.bit(46)
+        self.bit(bits::PREFETCHW)
     }
 
     /// These settings with PREFETCHW.
@@ -64,14 +65,14 @@ impl InstDecoder {
         ensures set { result ≡ with_set self prefetchw }
         ensures long { length result ≡ 128 }
     {
-        self.with_bit(46)
+        self.with_bit(bits::PREFETCHW)
     }
 
     /// PREFETCHWT1.
     pub fn prefetchwt1(&self) -> bool
         ensures { result ≡ is_set self.now prefetchwt1 }
     {
-        self.bit(47)
+        self.bit(bits::PREFETCHWT1)
     }
 
     /// These settings with PREFETCHWT1.
@@ -79,14 +80,14 @@ impl InstDecoder {
         ensures set { result ≡ with_set self prefetchwt1 }
         ensures long { length result ≡ 128 }
     {
-        self.with_bit(47)
+        self.with_bit(bits::PREFETCHWT1)
     }
 
     /// WBNOINVD. Shares its bit with `clzero`.
     pub fn wbnoinvd(&self) -> bool
         ensures { result ≡ is_set self.now wbnoinvd }
     {
-        self.bit(72)
+        self.bit(bits::WBNOINVD)
     }
 
     /// These settings with WBNOINVD, and so with `clzero`.
@@ -94,6 +95,6 @@ impl InstDecoder {
         ensures set { result ≡ with_set self wbnoinvd }
         ensures long { length result ≡ 128 }
     {
-        self.with_bit(72)
+        self.with_bit(bits::WBNOINVD)
     }
 }

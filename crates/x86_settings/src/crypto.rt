@@ -5,6 +5,7 @@ ghost use Rattle.x86_settings.specs.Bits.{is_set, with_set};
 ghost use Rattle.x86_settings.specs.Settings.{aesni, gfni, pclmulqdq, sha, vaes, vpclmulqdq, sm3, sm4, sm4_evex};
 ghost use Rattle.x86_settings.specs.Settings.{keylocker};
 
+use crate::bits;
 use crate::decoder::InstDecoder;
 
 impl InstDecoder {
@@ -12,7 +13,7 @@ impl InstDecoder {
     pub fn aesni(&self) -> bool
         ensures { result ≡ is_set self.now aesni }
     {
-        self.bit(5)
+        self.bit(bits::AESNI)
     }
 
     /// These settings with AES-NI.
@@ -20,14 +21,14 @@ impl InstDecoder {
         ensures set { result ≡ with_set self aesni }
         ensures long { length result ≡ 128 }
     {
-        self.with_bit(5)
+        self.with_bit(bits::AESNI)
     }
 
     /// GFNI: GF2P8AFFINEINVQB, GF2P8AFFINEQB and GF2P8MULB.
     pub fn gfni(&self) -> bool
         ensures { result ≡ is_set self.now gfni }
     {
-        self.bit(35)
+        self.bit(bits::GFNI)
     }
 
     /// These settings with GFNI.
@@ -35,14 +36,14 @@ impl InstDecoder {
         ensures set { result ≡ with_set self gfni }
         ensures long { length result ≡ 128 }
     {
-        self.with_bit(35)
+        self.with_bit(bits::GFNI)
     }
 
     /// PCLMULQDQ: multiplication without carries.
     pub fn pclmulqdq(&self) -> bool
         ensures { result ≡ is_set self.now pclmulqdq }
     {
-        self.bit(43)
+        self.bit(bits::PCLMULQDQ)
     }
 
     /// These settings with PCLMULQDQ.
@@ -50,14 +51,14 @@ impl InstDecoder {
         ensures set { result ≡ with_set self pclmulqdq }
         ensures long { length result ≡ 128 }
     {
-        self.with_bit(43)
+        self.with_bit(bits::PCLMULQDQ)
     }
 
     /// SHA: SHA1RNDS4, SHA256RNDS2 and their like.
     pub fn sha(&self) -> bool
         ensures { result ≡ is_set self.now sha }
     {
-        self.bit(52)
+        self.bit(bits::SHA)
     }
 
     /// These settings with SHA.
@@ -65,14 +66,14 @@ impl InstDecoder {
         ensures set { result ≡ with_set self sha }
         ensures long { length result ≡ 128 }
     {
-        self.with_bit(52)
+        self.with_bit(bits::SHA)
     }
 
     /// VAES: AES on vectors of 256 bits and more.
     pub fn vaes(&self) -> bool
         ensures { result ≡ is_set self.now vaes }
     {
-        self.bit(63)
+        self.bit(bits::VAES)
     }
 
     /// These settings with VAES.
@@ -80,14 +81,14 @@ impl InstDecoder {
         ensures set { result ≡ with_set self vaes }
         ensures long { length result ≡ 128 }
     {
-        self.with_bit(63)
+        self.with_bit(bits::VAES)
     }
 
     /// VPCLMULQDQ: PCLMULQDQ on vectors of 256 bits and more.
     pub fn vpclmulqdq(&self) -> bool
         ensures { result ≡ is_set self.now vpclmulqdq }
     {
-        self.bit(74)
+        self.bit(bits::VPCLMULQDQ)
     }
 
     /// These settings with VPCLMULQDQ.
@@ -95,14 +96,14 @@ impl InstDecoder {
         ensures set { result ≡ with_set self vpclmulqdq }
         ensures long { length result ≡ 128 }
     {
-        self.with_bit(74)
+        self.with_bit(bits::VPCLMULQDQ)
     }
 
     /// SM3: VSM3MSG1, VSM3MSG2 and VSM3RNDS2.
     pub fn sm3(&self) -> bool
         ensures { result ≡ is_set self.now sm3 }
     {
-        self.bit(90)
+        self.bit(bits::SM3)
     }
 
     /// These settings with SM3.
@@ -110,14 +111,14 @@ impl InstDecoder {
         ensures set { result ≡ with_set self sm3 }
         ensures long { length result ≡ 128 }
     {
-        self.with_bit(90)
+        self.with_bit(bits::SM3)
     }
 
     /// SM4: VSM4KEY4 and VSM4RNDS4.
     pub fn sm4(&self) -> bool
         ensures { result ≡ is_set self.now sm4 }
     {
-        self.bit(91)
+        self.bit(bits::SM4)
     }
 
     /// These settings with SM4.
@@ -125,14 +126,14 @@ impl InstDecoder {
         ensures set { result ≡ with_set self sm4 }
         ensures long { length result ≡ 128 }
     {
-        self.with_bit(91)
+        self.with_bit(bits::SM4)
     }
 
     /// SM4 with an EVEX prefix.
     pub fn sm4_evex(&self) -> bool
         ensures { result ≡ is_set self.now sm4_evex }
     {
-        self.bit(92)
+        self.bit(bits::SM4_EVEX)
     }
 
     /// These settings with SM4 with an EVEX prefix.
@@ -140,14 +141,14 @@ impl InstDecoder {
         ensures set { result ≡ with_set self sm4_evex }
         ensures long { length result ≡ 128 }
     {
-        self.with_bit(92)
+        self.with_bit(bits::SM4_EVEX)
     }
 
     /// Key Locker: AESENC128KL, ENCODEKEY128, LOADIWKEY and their like.
     pub fn keylocker(&self) -> bool
         ensures { result ≡ is_set self.now keylocker }
     {
-        self.bit(111)
+        self.bit(bits::KEYLOCKER)
     }
 
     /// These settings with Key Locker.
@@ -155,6 +156,6 @@ impl InstDecoder {
         ensures set { result ≡ with_set self keylocker }
         ensures long { length result ≡ 128 }
     {
-        self.with_bit(111)
+        self.with_bit(bits::KEYLOCKER)
     }
 }

@@ -5,6 +5,7 @@ ghost use Rattle.x86_settings.specs.Bits.{is_set, with_set};
 ghost use Rattle.x86_settings.specs.Settings.{adx, bmi1, bmi2, cmov, cmpxchg16b, cx8, lahfsahf, lzcnt, movbe, popcnt};
 ghost use Rattle.x86_settings.specs.Settings.{rdrand, rdseed, movdir64b, enqcmd, apx, movrs};
 
+use crate::bits;
 use crate::decoder::InstDecoder;
 
 impl InstDecoder {
@@ -12,7 +13,7 @@ impl InstDecoder {
     pub fn adx(&self) -> bool
         ensures { result ≡ is_set self.now adx }
     {
-        self.bit(4)
+        self.bit(bits::ADX)
     }
 
     /// These settings with ADX.
@@ -20,14 +21,14 @@ impl InstDecoder {
         ensures set { result ≡ with_set self adx }
         ensures long { length result ≡ 128 }
     {
-        self.with_bit(4)
+        self.with_bit(bits::ADX)
     }
 
     /// BMI1: ANDN, BEXTR, BLSI, BLSMSK, BLSR and TZCNT.
     pub fn bmi1(&self) -> bool
         ensures { result ≡ is_set self.now bmi1 }
     {
-        self.bit(25)
+        self.bit(bits::BMI1)
     }
 
     /// These settings with BMI1.
@@ -35,14 +36,14 @@ impl InstDecoder {
         ensures set { result ≡ with_set self bmi1 }
         ensures long { length result ≡ 128 }
     {
-        self.with_bit(25)
+        self.with_bit(bits::BMI1)
     }
 
     /// BMI2: BZHI, MULX, PDEP, PEXT, RORX, SARX, SHLX and SHRX.
     pub fn bmi2(&self) -> bool
         ensures { result ≡ is_set self.now bmi2 }
     {
-        self.bit(26)
+        self.bit(bits::BMI2)
     }
 
     /// These settings with BMI2.
@@ -50,14 +51,14 @@ impl InstDecoder {
         ensures set { result ≡ with_set self bmi2 }
         ensures long { length result ≡ 128 }
     {
-        self.with_bit(26)
+        self.with_bit(bits::BMI2)
     }
 
     /// CMOV: CMOVcc and FCMOVcc.
     pub fn cmov(&self) -> bool
         ensures { result ≡ is_set self.now cmov }
     {
-        self.bit(29)
+        self.bit(bits::CMOV)
     }
 
     /// These settings with CMOV.
@@ -65,14 +66,14 @@ impl InstDecoder {
         ensures set { result ≡ with_set self cmov }
         ensures long { length result ≡ 128 }
     {
-        self.with_bit(29)
+        self.with_bit(bits::CMOV)
     }
 
     /// CMPXCHG16B.
     pub fn cmpxchg16b(&self) -> bool
         ensures { result ≡ is_set self.now cmpxchg16b }
     {
-        self.bit(30)
+        self.bit(bits::CMPXCHG16B)
     }
 
     /// These settings with CMPXCHG16B.
@@ -80,14 +81,14 @@ impl InstDecoder {
         ensures set { result ≡ with_set self cmpxchg16b }
         ensures long { length result ≡ 128 }
     {
-        self.with_bit(30)
+        self.with_bit(bits::CMPXCHG16B)
     }
 
     /// CX8: CMPXCHG8B.
     pub fn cx8(&self) -> bool
         ensures { result ≡ is_set self.now cx8 }
     {
-        self.bit(31)
+        self.bit(bits::CX8)
     }
 
     /// These settings with CX8.
@@ -95,14 +96,14 @@ impl InstDecoder {
         ensures set { result ≡ with_set self cx8 }
         ensures long { length result ≡ 128 }
     {
-        self.with_bit(31)
+        self.with_bit(bits::CX8)
     }
 
     /// LAHFSAHF: LAHF and SAHF in 64-bit code.
     pub fn lahfsahf(&self) -> bool
         ensures { result ≡ is_set self.now lahfsahf }
     {
-        self.bit(38)
+        self.bit(bits::LAHFSAHF)
     }
 
     /// These settings with LAHFSAHF.
@@ -110,14 +111,14 @@ impl InstDecoder {
         ensures set { result ≡ with_set self lahfsahf }
         ensures long { length result ≡ 128 }
     {
-        self.with_bit(38)
+        self.with_bit(bits::LAHFSAHF)
     }
 
     /// LZCNT.
     pub fn lzcnt(&self) -> bool
         ensures { result ≡ is_set self.now lzcnt }
     {
-        self.bit(39)
+        self.bit(bits::LZCNT)
     }
 
     /// These settings with LZCNT.
@@ -125,14 +126,14 @@ impl InstDecoder {
         ensures set { result ≡ with_set self lzcnt }
         ensures long { length result ≡ 128 }
     {
-        self.with_bit(39)
+        self.with_bit(bits::LZCNT)
     }
 
     /// MOVBE.
     pub fn movbe(&self) -> bool
         ensures { result ≡ is_set self.now movbe }
     {
-        self.bit(41)
+        self.bit(bits::MOVBE)
     }
 
     /// These settings with MOVBE.
@@ -140,14 +141,14 @@ impl InstDecoder {
         ensures set { result ≡ with_set self movbe }
         ensures long { length result ≡ 128 }
     {
-        self.with_bit(41)
+        self.with_bit(bits::MOVBE)
     }
 
     /// POPCNT.
     pub fn popcnt(&self) -> bool
         ensures { result ≡ is_set self.now popcnt }
     {
-        self.bit(45)
+        self.bit(bits::POPCNT)
     }
 
     /// These settings with POPCNT.
@@ -155,14 +156,14 @@ impl InstDecoder {
         ensures set { result ≡ with_set self popcnt }
         ensures long { length result ≡ 128 }
     {
-        self.with_bit(45)
+        self.with_bit(bits::POPCNT)
     }
 
     /// RDRAND.
     pub fn rdrand(&self) -> bool
         ensures { result ≡ is_set self.now rdrand }
     {
-        self.bit(48)
+        self.bit(bits::RDRAND)
     }
 
     /// These settings with RDRAND.
@@ -170,14 +171,14 @@ impl InstDecoder {
         ensures set { result ≡ with_set self rdrand }
         ensures long { length result ≡ 128 }
     {
-        self.with_bit(48)
+        self.with_bit(bits::RDRAND)
     }
 
     /// RDSEED.
     pub fn rdseed(&self) -> bool
         ensures { result ≡ is_set self.now rdseed }
     {
-        self.bit(49)
+        self.bit(bits::RDSEED)
     }
 
     /// These settings with RDSEED.
@@ -185,14 +186,14 @@ impl InstDecoder {
         ensures set { result ≡ with_set self rdseed }
         ensures long { length result ≡ 128 }
     {
-        self.with_bit(49)
+        self.with_bit(bits::RDSEED)
     }
 
     /// MOVDIR64B.
     pub fn movdir64b(&self) -> bool
         ensures { result ≡ is_set self.now movdir64b }
     {
-        self.bit(75)
+        self.bit(bits::MOVDIR64B)
     }
 
     /// These settings with MOVDIR64B.
@@ -200,14 +201,14 @@ impl InstDecoder {
         ensures set { result ≡ with_set self movdir64b }
         ensures long { length result ≡ 128 }
     {
-        self.with_bit(75)
+        self.with_bit(bits::MOVDIR64B)
     }
 
     /// ENQCMD: ENQCMD and ENQCMDS.
     pub fn enqcmd(&self) -> bool
         ensures { result ≡ is_set self.now enqcmd }
     {
-        self.bit(76)
+        self.bit(bits::ENQCMD)
     }
 
     /// These settings with ENQCMD.
@@ -215,14 +216,14 @@ impl InstDecoder {
         ensures set { result ≡ with_set self enqcmd }
         ensures long { length result ≡ 128 }
     {
-        self.with_bit(76)
+        self.with_bit(bits::ENQCMD)
     }
 
     /// APX: 32 general registers, and three operands.
     pub fn apx(&self) -> bool
         ensures { result ≡ is_set self.now apx }
     {
-        self.bit(99)
+        self.bit(bits::APX)
     }
 
     /// These settings with APX.
@@ -230,14 +231,14 @@ impl InstDecoder {
         ensures set { result ≡ with_set self apx }
         ensures long { length result ≡ 128 }
     {
-        self.with_bit(99)
+        self.with_bit(bits::APX)
     }
 
     /// MOVRS: MOVRS and PREFETCHRST2.
     pub fn movrs(&self) -> bool
         ensures { result ≡ is_set self.now movrs }
     {
-        self.bit(103)
+        self.bit(bits::MOVRS)
     }
 
     /// These settings with MOVRS.
@@ -245,6 +246,6 @@ impl InstDecoder {
         ensures set { result ≡ with_set self movrs }
         ensures long { length result ≡ 128 }
     {
-        self.with_bit(103)
+        self.with_bit(bits::MOVRS)
     }
 }

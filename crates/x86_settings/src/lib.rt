@@ -14,19 +14,19 @@ mod amd;
 mod amx;
 mod avx;
 mod avx512;
+pub mod bits;
 mod cache;
 mod crypto;
 mod decoder;
 #[cfg(test)]
 mod example;
 mod integer;
-mod laws;
+pub mod laws;
 mod quirks;
 mod sse;
 mod system;
 
 pub use decoder::InstDecoder;
-pub use laws::setter_and_getter;
 
 #[cfg(test)]
 mod tests;

@@ -4,6 +4,7 @@ ghost use Rattle.std.specs.Prelude.{◌≡◌, length};
 ghost use Rattle.x86_settings.specs.Bits.{is_set, with_set};
 ghost use Rattle.x86_settings.specs.Settings.{amd_quirks, intel_quirks};
 
+use crate::bits;
 use crate::decoder::InstDecoder;
 
 impl InstDecoder {
@@ -11,7 +12,7 @@ impl InstDecoder {
     pub fn amd_quirks(&self) -> bool
         ensures { result ≡ is_set self.now amd_quirks }
     {
-        self.bit(6)
+        self.bit(bits::AMD_QUIRKS)
     }
 
     /// These settings with AMD's quirks.
@@ -19,14 +20,14 @@ impl InstDecoder {
         ensures set { result ≡ with_set self amd_quirks }
         ensures long { length result ≡ 128 }
     {
-        self.with_bit(6)
+        self.with_bit(bits::AMD_QUIRKS)
     }
 
     /// Intel's quirks: what Intel's processors decode in their own way, as POPCNT with SSE4.2.
     pub fn intel_quirks(&self) -> bool
         ensures { result ≡ is_set self.now intel_quirks }
     {
-        self.bit(36)
+        self.bit(bits::INTEL_QUIRKS)
     }
 
     /// These settings with Intel's quirks.
@@ -34,6 +35,6 @@ impl InstDecoder {
         ensures set { result ≡ with_set self intel_quirks }
         ensures long { length result ≡ 128 }
     {
-        self.with_bit(36)
+        self.with_bit(bits::INTEL_QUIRKS)
     }
 }

@@ -5,6 +5,7 @@ ghost use Rattle.x86_settings.specs.Bits.{is_set, with_set};
 ghost use Rattle.x86_settings.specs.Settings.{invpcid, monitor, mpx, rdtscp, sgx, syscall, tsx, vmx, xsave, xsavec};
 ghost use Rattle.x86_settings.specs.Settings.{xsaves, xsaveopt, fsgsbase, rdpid, fred, urdmsr, immediate_rdmsr, hreset};
 
+use crate::bits;
 use crate::decoder::InstDecoder;
 
 impl InstDecoder {
@@ -12,7 +13,7 @@ impl InstDecoder {
     pub fn invpcid(&self) -> bool
         ensures { result ≡ is_set self.now invpcid }
     {
-        self.bit(37)
+        self.bit(bits::INVPCID)
     }
 
     /// These settings with INVPCID.
@@ -20,14 +21,14 @@ impl InstDecoder {
         ensures set { result ≡ with_set self invpcid }
         ensures long { length result ≡ 128 }
     {
-        self.with_bit(37)
+        self.with_bit(bits::INVPCID)
     }
 
     /// MONITOR. It decides nothing: MONITOR and MWAIT are permitted by `sse3`.
     pub fn monitor(&self) -> bool
         ensures { result ≡ is_set self.now monitor }
     {
-        self.bit(40)
+        self.bit(bits::MONITOR)
     }
 
     /// These settings with MONITOR.
@@ -35,14 +36,14 @@ impl InstDecoder {
         ensures set { result ≡ with_set self monitor }
         ensures long { length result ≡ 128 }
     {
-        self.with_bit(40)
+        self.with_bit(bits::MONITOR)
     }
 
     /// MPX: bounds, as BNDMK and BNDCL.
     pub fn mpx(&self) -> bool
         ensures { result ≡ is_set self.now mpx }
     {
-        self.bit(42)
+        self.bit(bits::MPX)
     }
 
     /// These settings with MPX.
@@ -50,14 +51,14 @@ impl InstDecoder {
         ensures set { result ≡ with_set self mpx }
         ensures long { length result ≡ 128 }
     {
-        self.with_bit(42)
+        self.with_bit(bits::MPX)
     }
 
     /// RDTSCP.
     pub fn rdtscp(&self) -> bool
         ensures { result ≡ is_set self.now rdtscp }
     {
-        self.bit(50)
+        self.bit(bits::RDTSCP)
     }
 
     /// These settings with RDTSCP.
@@ -65,14 +66,14 @@ impl InstDecoder {
         ensures set { result ≡ with_set self rdtscp }
         ensures long { length result ≡ 128 }
     {
-        self.with_bit(50)
+        self.with_bit(bits::RDTSCP)
     }
 
     /// SGX: enclaves, ENCLS, ENCLU and ENCLV.
     pub fn sgx(&self) -> bool
         ensures { result ≡ is_set self.now sgx }
     {
-        self.bit(51)
+        self.bit(bits::SGX)
     }
 
     /// These settings with SGX.
@@ -80,14 +81,14 @@ impl InstDecoder {
         ensures set { result ≡ with_set self sgx }
         ensures long { length result ≡ 128 }
     {
-        self.with_bit(51)
+        self.with_bit(bits::SGX)
     }
 
     /// SYSCALL: SYSCALL and SYSRET.
     pub fn syscall(&self) -> bool
         ensures { result ≡ is_set self.now syscall }
     {
-        self.bit(60)
+        self.bit(bits::SYSCALL)
     }
 
     /// These settings with SYSCALL.
@@ -95,14 +96,14 @@ impl InstDecoder {
         ensures set { result ≡ with_set self syscall }
         ensures long { length result ≡ 128 }
     {
-        self.with_bit(60)
+        self.with_bit(bits::SYSCALL)
     }
 
     /// TSX: XABORT, XBEGIN, XEND and XTEST.
     pub fn tsx(&self) -> bool
         ensures { result ≡ is_set self.now tsx }
     {
-        self.bit(62)
+        self.bit(bits::TSX)
     }
 
     /// These settings with TSX.
@@ -110,14 +111,14 @@ impl InstDecoder {
         ensures set { result ≡ with_set self tsx }
         ensures long { length result ≡ 128 }
     {
-        self.with_bit(62)
+        self.with_bit(bits::TSX)
     }
 
     /// VMX: Intel's virtual machines, as VMLAUNCH, INVEPT and INVVPID.
     pub fn vmx(&self) -> bool
         ensures { result ≡ is_set self.now vmx }
     {
-        self.bit(64)
+        self.bit(bits::VMX)
     }
 
     /// These settings with VMX.
@@ -125,14 +126,14 @@ impl InstDecoder {
         ensures set { result ≡ with_set self vmx }
         ensures long { length result ≡ 128 }
     {
-        self.with_bit(64)
+        self.with_bit(bits::VMX)
     }
 
     /// XSAVE: XSAVE, XRSTOR, XGETBV and XSETBV.
     pub fn xsave(&self) -> bool
         ensures { result ≡ is_set self.now xsave }
     {
-        self.bit(66)
+        self.bit(bits::XSAVE)
     }
 
     /// These settings with XSAVE.
@@ -140,14 +141,14 @@ impl InstDecoder {
         ensures set { result ≡ with_set self xsave }
         ensures long { length result ≡ 128 }
     {
-        self.with_bit(66)
+        self.with_bit(bits::XSAVE)
     }
 
     /// XSAVEC.
     pub fn xsavec(&self) -> bool
         ensures { result ≡ is_set self.now xsavec }
     {
-        self.bit(67)
+        self.bit(bits::XSAVEC)
     }
 
     /// These settings with XSAVEC.
@@ -155,14 +156,14 @@ impl InstDecoder {
         ensures set { result ≡ with_set self xsavec }
         ensures long { length result ≡ 128 }
     {
-        self.with_bit(67)
+        self.with_bit(bits::XSAVEC)
     }
 
     /// XSAVES: XSAVES and XRSTORS.
     pub fn xsaves(&self) -> bool
         ensures { result ≡ is_set self.now xsaves }
     {
-        self.bit(68)
+        self.bit(bits::XSAVES)
     }
 
     /// These settings with XSAVES.
@@ -170,14 +171,14 @@ impl InstDecoder {
         ensures set { result ≡ with_set self xsaves }
         ensures long { length result ≡ 128 }
     {
-        self.with_bit(68)
+        self.with_bit(bits::XSAVES)
     }
 
     /// XSAVEOPT.
     pub fn xsaveopt(&self) -> bool
         ensures { result ≡ is_set self.now xsaveopt }
     {
-        self.bit(69)
+        self.bit(bits::XSAVEOPT)
     }
 
     /// These settings with XSAVEOPT.
@@ -185,14 +186,14 @@ impl InstDecoder {
         ensures set { result ≡ with_set self xsaveopt }
         ensures long { length result ≡ 128 }
     {
-        self.with_bit(69)
+        self.with_bit(bits::XSAVEOPT)
     }
 
     /// FSGSBASE: RDFSBASE, RDGSBASE, WRFSBASE and WRGSBASE.
     pub fn fsgsbase(&self) -> bool
         ensures { result ≡ is_set self.now fsgsbase }
     {
-        self.bit(70)
+        self.bit(bits::FSGSBASE)
     }
 
     /// These settings with FSGSBASE.
@@ -200,14 +201,14 @@ impl InstDecoder {
         ensures set { result ≡ with_set self fsgsbase }
         ensures long { length result ≡ 128 }
     {
-        self.with_bit(70)
+        self.with_bit(bits::FSGSBASE)
     }
 
     /// RDPID.
     pub fn rdpid(&self) -> bool
         ensures { result ≡ is_set self.now rdpid }
     {
-        self.bit(73)
+        self.bit(bits::RDPID)
     }
 
     /// These settings with RDPID.
@@ -215,14 +216,14 @@ impl InstDecoder {
         ensures set { result ≡ with_set self rdpid }
         ensures long { length result ≡ 128 }
     {
-        self.with_bit(73)
+        self.with_bit(bits::RDPID)
     }
 
     /// FRED: ERETS, ERETU and LKGS. Shares its bit with `urdmsr`.
     pub fn fred(&self) -> bool
         ensures { result ≡ is_set self.now fred }
     {
-        self.bit(101)
+        self.bit(bits::FRED)
     }
 
     /// These settings with FRED, and so with `urdmsr`.
@@ -230,14 +231,14 @@ impl InstDecoder {
         ensures set { result ≡ with_set self fred }
         ensures long { length result ≡ 128 }
     {
-        self.with_bit(101)
+        self.with_bit(bits::FRED)
     }
 
     /// USER_MSR: URDMSR and UWRMSR. Shares its bit with `fred`.
     pub fn urdmsr(&self) -> bool
         ensures { result ≡ is_set self.now urdmsr }
     {
-        self.bit(101)
+        self.bit(bits::URDMSR)
     }
 
     /// These settings with USER_MSR, the setter of `urdmsr`, and so with `fred`.
@@ -245,14 +246,14 @@ impl InstDecoder {
         ensures set { result ≡ with_set self urdmsr }
         ensures long { length result ≡ 128 }
     {
-        self.with_bit(101)
+        self.with_bit(bits::URDMSR)
     }
 
     /// MSR_IMM: RDMSR and WRMSRNS of an immediate.
     pub fn immediate_rdmsr(&self) -> bool
         ensures { result ≡ is_set self.now immediate_rdmsr }
     {
-        self.bit(102)
+        self.bit(bits::IMMEDIATE_RDMSR)
     }
 
     /// These settings with MSR_IMM.
@@ -260,14 +261,14 @@ impl InstDecoder {
         ensures set { result ≡ with_set self immediate_rdmsr }
         ensures long { length result ≡ 128 }
     {
-        self.with_bit(102)
+        self.with_bit(bits::IMMEDIATE_RDMSR)
     }
 
     /// HRESET.
     pub fn hreset(&self) -> bool
         ensures { result ≡ is_set self.now hreset }
     {
-        self.bit(112)
+        self.bit(bits::HRESET)
     }
 
     /// These settings with HRESET.
@@ -275,6 +276,6 @@ impl InstDecoder {
         ensures set { result ≡ with_set self hreset }
         ensures long { length result ≡ 128 }
     {
-        self.with_bit(112)
+        self.with_bit(bits::HRESET)
     }
 }

@@ -1,3 +1,4 @@
+use super::laws::setter_and_getter;
 use super::*;
 use std::process::Abort;
 use std::test::Fail;

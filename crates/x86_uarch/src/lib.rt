@@ -10,9 +10,6 @@
 #![tactic(auto)]
 
 ghost use Rattle.std.specs.Prelude.{◌≡◌, map};
-ghost use Rattle.x86_settings.specs.Sets.{exactly};
-ghost use Rattle.x86_uarch.specs.Amd.{bulldozer, steamroller};
-ghost use Rattle.x86_uarch.specs.Intel.{core, penryn, skylake, kabylake};
 ghost use Rattle.x86_uarch.specs.Profiles.{microarchitectures, profile_of};
 
 use x86_settings::InstDecoder;
@@ -21,6 +18,7 @@ pub mod amd;
 #[cfg(test)]
 mod example;
 pub mod intel;
+pub mod laws;
 
 /// The profile of that name: the functions of `amd` and `intel` by their names, and `default` and
 /// `minimal`. None for any other text; case counts.
@@ -89,13 +87,6 @@ pub fn names() -> &'static [&'static str]
         "kabylake",
     ]
 }
-
-/// Steamroller has the settings of Bulldozer, Penryn those of Core, and Kaby Lake those of Skylake.
-pub fn equal_profiles()
-    ensures steamroller { exactly steamroller ≡ exactly bulldozer }
-    ensures penryn { exactly penryn ≡ exactly core }
-    ensures kabylake { exactly kabylake ≡ exactly skylake }
-{}
 
 #[cfg(test)]
 mod tests;

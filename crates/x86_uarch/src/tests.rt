@@ -1,3 +1,4 @@
+use super::laws::equal_profiles;
 use super::*;
 use std::process::Abort;
 
