@@ -14,13 +14,14 @@ use step_counter::Steps;
 use vex_decode::{MAX_BYTES, three_byte_prefix};
 use vex_forms::{RowLayout, VvvvRule, layout};
 use vex_rows::{Entry, Form, Prefix, Rule, entry_at, entry_count};
+use x86_address::pack_fields;
 
 /// The field mod of a ModRM byte whose operand E is in memory, with four bytes of displacement (Intel SDM volume 2,
 /// table 2-2).
-const MOD_DISPLACED: u8 = 0x80;
+const MOD_DISPLACED: u8 = 2;
 
 /// The field mod of a ModRM byte whose operand E is a register.
-const MOD_REGISTER: u8 = 0xC0;
+const MOD_REGISTER: u8 = 3;
 
 /// The field r/m of a ModRM byte that a SIB byte follows.
 const RM_SIB: u8 = 4;
@@ -130,13 +131,15 @@ fn push_operand(bytes: &mut Generated, memory: bool, reg: u8, round: usize)
     ensures short { array_vec_len bytes.new ≤ array_vec_len bytes.old + 6 }
 {
     if memory {
-        let modrm = MOD_DISPLACED + 8 * reg + RM_SIB;
-        match bytes.try_extend_from_slice(&[modrm, 8, 0, 0, 0, 0]) {
+        let modrm = pack_fields(MOD_DISPLACED, reg, RM_SIB);
+        // The base rax, the index rcx.
+        let sib = pack_fields(0, 1, 0);
+        match bytes.try_extend_from_slice(&[modrm, sib, 0, 0, 0, 0]) {
             Ok(()) => {}
             Err(_) => unreachable!(),
         }
     } else {
-        bytes.push(MOD_REGISTER + 8 * reg + (round % 8) as u8);
+        bytes.push(pack_fields(MOD_REGISTER, reg, (round % 8) as u8));
     }
 }
 
