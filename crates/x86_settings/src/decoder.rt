@@ -1,6 +1,6 @@
 //! The settings as two words, and their bits.
 
-ghost use Rattle.std.specs.Prelude.{◌≡◌, ◌<◌, ◌↔◌, length, IsTrue};
+ghost use Rattle.std.specs.Prelude.{◌≡◌, ◌<◌, ◌↔◌, ◌++◌, length, IsTrue};
 ghost use Rattle.std.specs.Bool.{beq};
 ghost use Rattle.std.specs.Cmp.Lexicographic.{pointwise};
 ghost use Rattle.std.specs.Cmp.Rules.{comparing};
@@ -56,6 +56,21 @@ impl InstDecoder {
             low: u64::MAX,
             high: u64::MAX,
         }
+    }
+
+    /// The settings whose bits 0 to 63 are those of the low word and whose bits 64 to 127 are those of the high one,
+    /// the lowest first. Each pair of words is one of settings.
+    pub fn from_words(low: u64, high: u64) -> InstDecoder
+        ensures { result ≡ bits 64 low ++ bits 64 high }
+    {
+        InstDecoder { low, high }
+    }
+
+    /// The words that `from_words` makes these settings of: bits 0 to 63 and bits 64 to 127.
+    pub fn words(&self) -> (u64, u64)
+        ensures { self.now ≡ bits 64 result.0 ++ bits 64 result.1 }
+    {
+        (self.low, self.high)
     }
 
     /// Whether bit `i` is set, 0 to 127.
