@@ -146,7 +146,7 @@ from-skip settings (suc k) state place count (b ∷ bs) within =
     ∙ ap (λ p. ran_from settings 0 state p count (drop k bs)) at
 
 -- an instruction that runs, and the run of what follows it
-from-step : (settings : List Bool) (state next : State) (place count len : ℕ) (bytes : List ℕ)
+pub from-step : (settings : List Bool) (state next : State) (place count len : ℕ) (bytes : List ℕ)
     → step settings state bytes ≡ Ok (next, len)
     → 1 ≤ len → len ≤ length bytes
     → ran_from settings 0 state place count bytes ≡ ran_from settings 0 next (place + len) (count + 1) (drop len bytes)
@@ -161,7 +161,7 @@ from-step settings state next place count len (b ∷ bs) is some within =
     ∙ ap (λ k. ran_from settings 0 next (place + len) (count + 1) (drop k (b ∷ bs))) more
 
 -- an instruction that halts
-from-halt : (settings : List Bool) (state : State) (place count : ℕ) (bytes : List ℕ) (cause : HaltCause)
+pub from-halt : (settings : List Bool) (state : State) (place count : ℕ) (bytes : List ℕ) (cause : HaltCause)
     → step settings state bytes ≡ Err cause
     → 0 < length bytes → ran_from settings 0 state place count bytes
     ≡ (state, Err (record { place = place; count = count; cause = cause }))

@@ -5,4 +5,5 @@ pub mod Work
 pub mod Subset
 pub mod Run
 pub mod Laws
+pub mod Repeated
 pub mod Lending

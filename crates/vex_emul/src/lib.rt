@@ -32,4 +32,4 @@ mod tests;
 mod work;
 
 pub use machine::{Machine, VECTOR_BYTES};
-pub use run::{Halt, HaltCause, run_code};
+pub use run::{Halt, HaltCause, run_code, step};

@@ -46,9 +46,10 @@ pub struct Halt {
     pub cause: HaltCause,
 }
 
-/// Runs the instruction at the front of the bytes, and answers the number of its bytes. Where it halts, nothing is
+/// Runs the instruction at the front of the bytes under the settings, and answers the number of its bytes, from 3 to
+/// 11. A run of code is the repetition of this. Where it halts, by the causes that `run_code` names, nothing is
 /// changed.
-fn step(machine: &mut Machine, decoder: &InstDecoder, bytes: &[u8]) -> Result<usize, HaltCause>
+pub fn step(machine: &mut Machine, decoder: &InstDecoder, bytes: &[u8]) -> Result<usize, HaltCause>
     ensures done { IfOk result (λ len. step decoder.now machine.old bytes.now ≡ Ok (machine.new, len)) }
     ensures some { IfOk result (λ len. 1 ≤ len) }
     ensures within { IfOk result (λ len. len ≤ length bytes.now) }

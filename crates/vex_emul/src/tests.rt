@@ -3,7 +3,7 @@
 use crate::operation::Lane::{Byte, Doubleword, Quadword, Word};
 use crate::operation::Operation::{self, Add, And, AndNot, Equal, Or, Subtract, Xor};
 use crate::operation::{result_16, result_32};
-use crate::{Halt, HaltCause, Machine, run_code};
+use crate::{Halt, HaltCause, Machine, run_code, step};
 use std::process::Abort;
 use std::simd::prelude::*;
 use x86_operand::DecodeError;
@@ -361,4 +361,19 @@ fn a_machine_is_used_again(rt: HostRuntime) {
     );
     assert_eq!(rt; machine.memory().get(15), Some(&0));
     assert_eq!(rt; machine.memory().get(16), Some(&0xAB));
+}
+
+#[test]
+fn a_step_is_one_instruction(rt: HostRuntime) {
+    let mut memory = [0; 1024];
+    let mut machine = started(&mut memory);
+    machine.set_vector(1, &[1; 32]);
+    machine.set_vector(2, &[2; 32]);
+    // vpaddb ymm0, ymm1, ymm2; ret
+    let code = [0xC5, 0xF5, 0xFC, 0xC2, 0xC3];
+    let settings = InstDecoder::default();
+    assert_eq!(rt; step(&mut machine, &settings, &code), Ok(4));
+    assert_eq!(rt; &machine.vector(0)[..], &[3; 32][..]);
+    let halted = step(&mut machine, &settings, &code[4..]);
+    assert_eq!(rt; halted, Err(HaltCause::Blocked(DecodeError::Outside)));
 }
