@@ -2,12 +2,12 @@
 use Rattle.std.specs.Prelude.{◌≡◌, refl, ℕ, ◌%◌, ◌==◌}
 use Rattle.std.proofs.Common.{arith, ap, subst}
 use Rattle.x86_address.specs.Place.{Number, Direct}
-use Rattle.x86_address.specs.Shortest.{shortest}
+use Rattle.x86_address.specs.Shortest.{shortest_in}
 use Rattle.vex_forms.specs.declared.operand_e.OperandE.TheVariants.{Register}
 use Rattle.vex_encode.specs.Assembly.{AsksFor}
 
 asks : (n : ℕ) → AsksFor (Register (n % 16)) (Number n)
-unfolding shortest
+unfolding shortest_in
 asks n = record { place = ap Direct (omega arith); x = refl; b = ap (λ k. k == 1) (omega arith) }
 
 pub register_asks : (n num : ℕ) → n ≡ num → AsksFor (Register (n % 16)) (Number num)

@@ -123,9 +123,10 @@ module _ (index_bank : RegisterBank) (slots : List Slot) (kind : Kind) (group : 
       (E bank) m refl in
       let e_is = ap (target_of kind) first.operand
       ∙ e_given index_bank r v reg (target (is_vector kind) place x b) imm kind first.slot first.passes
-      (kind_of_target-target (is_vector kind) place x b ∙ is_kind.plain) in
+      (kind_of_target-target 1 (is_vector kind) place x b ∙ is_kind.plain) in
       ap (target_operand bank index_bank) (ap (λ e. target (is_vector kind) (shortest e) (x_of e) (b_of e)) e_is
-      ∙ names-shortest (is_vector kind) _ (IsSpellable-target (is_vector kind) place x b is_place is_kind.sib))
+      ∙ names-shortest (is_vector kind) _ (inl refl)
+      (IsSpellable-target (is_vector kind) place x b (inl refl) is_place is_kind.sib))
   slot_again U8 m = immediate_again NoTarget 0 0 0 U8 m refl
   slot_again I8 m = immediate_again NoTarget 0 0 0 I8 m refl
   slot_again (R4 bank) m = immediate_again NoTarget 0 0 0 (R4 bank) m refl

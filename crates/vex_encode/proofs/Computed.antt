@@ -10,7 +10,7 @@ use Rattle.x86_opcode.specs.Number.{same_opcode, opcode_number}
 use Rattle.x86_operand.specs.Same.{same_meaning, same_operands, same_operand, same_register, same_bank}
 use Rattle.x86_address.specs.Place.{At, Numbered, Based}
 use Rattle.x86_address.specs.Bytes.{Absent, Short}
-use Rattle.x86_address.specs.Shortest.{shortest}
+use Rattle.x86_address.specs.Shortest.{shortest_in, shortest}
 use Rattle.vex_rows.specs.Rules.{has_key}
 use Rattle.vex_rows.specs.FormRows.{form_row, gathers, sizes}
 use Rattle.vex_rows.specs.Steps.{steps}
@@ -36,7 +36,7 @@ moves = record {
 }
 
 canon_moves : canon moves ≡ Some (0xC5 ∷ 0x78 ∷ 0x29 ∷ 0xC0 ∷ [])
-unfolding canon rows choices exists has_groups mark_of table steps form_row groups standard candidate shortest slots
+unfolding canon rows choices exists has_groups mark_of table steps form_row groups standard candidate shortest_in slots
     index_bank gathers size_of sizes v_rule gives opcode_of has_imm same_meaning same_operands same_operand
     same_register same_bank same_opcode opcode_number
 canon_moves = refl
@@ -46,7 +46,7 @@ canon_moves = refl
 rows_of_moves : all_standard moves rows ≡ (0xC4 ∷ 0xC1 ∷ 0x78 ∷ 0x28 ∷ 0xC0 ∷ [])
     ∷ (0xC4 ∷ 0xC1 ∷ 0xF8 ∷ 0x28 ∷ 0xC0 ∷ []) ∷ (0xC5 ∷ 0x78 ∷ 0x29 ∷ 0xC0 ∷ [])
     ∷ (0xC4 ∷ 0x61 ∷ 0xF8 ∷ 0x29 ∷ 0xC0 ∷ []) ∷ []
-unfolding rows choices exists has_groups mark_of table steps form_row groups standard candidate shortest slots
+unfolding rows choices exists has_groups mark_of table steps form_row groups standard candidate shortest_in slots
     index_bank gathers size_of sizes v_rule gives opcode_of has_imm same_meaning same_operands same_operand
     same_register same_bank same_opcode opcode_number
 rows_of_moves = refl
@@ -64,13 +64,13 @@ adds = record {
 
 -- one entry gives it, at either W
 rows_of_adds : all_standard adds rows ≡ (0xC5 ∷ 0xF0 ∷ 0x58 ∷ 0xC2 ∷ []) ∷ (0xC4 ∷ 0xE1 ∷ 0xF0 ∷ 0x58 ∷ 0xC2 ∷ []) ∷ []
-unfolding rows choices exists has_groups mark_of table steps form_row groups standard candidate shortest slots
+unfolding rows choices exists has_groups mark_of table steps form_row groups standard candidate shortest_in slots
     index_bank gathers size_of sizes v_rule gives opcode_of has_imm same_meaning same_operands same_operand
     same_register same_bank same_opcode opcode_number
 rows_of_adds = refl
 
 canon_adds : canon adds ≡ Some (0xC5 ∷ 0xF0 ∷ 0x58 ∷ 0xC2 ∷ [])
-unfolding canon rows choices exists has_groups mark_of table steps form_row groups standard candidate shortest slots
+unfolding canon rows choices exists has_groups mark_of table steps form_row groups standard candidate shortest_in slots
     index_bank gathers size_of sizes v_rule gives opcode_of has_imm same_meaning same_operands same_operand
     same_register same_bank same_opcode opcode_number
 canon_adds = refl
@@ -86,7 +86,7 @@ moves_above = record {
 }
 
 canon_moves_above : canon moves_above ≡ None
-unfolding canon rows choices exists has_groups mark_of table steps form_row groups standard candidate shortest slots
+unfolding canon rows choices exists has_groups mark_of table steps form_row groups standard candidate shortest_in slots
     index_bank gathers size_of sizes v_rule gives opcode_of has_imm same_meaning same_operands same_operand
     same_register same_bank same_opcode opcode_number
 canon_moves_above = refl
@@ -103,7 +103,7 @@ blends = record {
 }
 
 canon_blends : canon blends ≡ Some (0xC4 ∷ 0xE3 ∷ 0x71 ∷ 0x4A ∷ 0xC2 ∷ 0x30 ∷ [])
-unfolding canon rows choices exists has_groups mark_of table steps form_row groups standard candidate shortest slots
+unfolding canon rows choices exists has_groups mark_of table steps form_row groups standard candidate shortest_in slots
     index_bank gathers size_of sizes v_rule gives opcode_of has_imm same_meaning same_operands same_operand
     same_register same_bank same_opcode opcode_number
 canon_blends = refl
@@ -141,9 +141,9 @@ unfolding walk walk_form entry_of has_key table steps form_row groups
 begins = refl
 
 place_of_a_base : shortest (At (record { base = Numbered 0; index = None; disp = pos 0 })) ≡ Based 0 Absent
-unfolding shortest
+unfolding shortest_in
 place_of_a_base = refl
 
 place_of_base_five : shortest (At (record { base = Numbered 5; index = None; disp = pos 0 })) ≡ Based 5 (Short 0)
-unfolding shortest
+unfolding shortest_in
 place_of_base_five = refl

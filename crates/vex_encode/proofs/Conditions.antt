@@ -90,8 +90,8 @@ module _ (index_bank : RegisterBank) (kind : Kind) (r v reg : ℕ) (place : Plac
   operand_given (G bank) alone = record { bank = refl; num = omega arith }
   operand_given (V bank) alone = record { bank = refl; num = v_fits }
   operand_given (E bank) alone =
-      let spellable = IsSpellable-target (is_vector kind) place x b is_place is_kind.sib in
-      let kinds = kind_of_target-target (is_vector kind) place x b ∙ is_kind.plain in
+      let spellable = IsSpellable-target (is_vector kind) place x b (inl refl) is_place is_kind.sib in
+      let kinds = kind_of_target-target 1 (is_vector kind) place x b ∙ is_kind.plain in
       placed_given kind index_bank bank (target (is_vector kind) place x b) spellable kinds with_e
     where
       with_e : kind ≢ WithoutModRM
@@ -178,13 +178,13 @@ placed_again : (kind : Kind) (index_bank bank : RegisterBank) (operand : Operand
     let e = target_of kind operand in target_operand bank index_bank
     (target (is_vector kind) (shortest e) (x_of e) (b_of e)) ≡ operand
 placed_again InRegister index_bank bank (register reg) fits =
-    ap (target_operand bank index_bank) (names-shortest false (Number reg.num) (omega arith))
+    ap (target_operand bank index_bank) (names-shortest false (Number reg.num) (inl refl) (omega arith))
     ∙ register_again bank reg reg.num fits refl
 placed_again InMemory index_bank bank (memory a) fits =
-    ap (target_operand bank index_bank) (names-shortest false (At (plain a)) (address_named false index_bank a fits))
+    ap (target_operand bank index_bank) (names-shortest false (At (plain a)) (inl refl) (address_named false index_bank a fits))
     ∙ ap memory (address_again false index_bank a fits)
 placed_again VectorIndexed index_bank bank (memory a) fits =
-    ap (target_operand bank index_bank) (names-shortest true (At (plain a)) (address_named true index_bank a fits))
+    ap (target_operand bank index_bank) (names-shortest true (At (plain a)) (inl refl) (address_named true index_bank a fits))
     ∙ ap memory (address_again true index_bank a fits)
 placed_again _ index_bank bank _ fits = absurd fits
 
@@ -357,7 +357,7 @@ with_modrm vector false kind m k = refl
 -- an address that fits, whose index is a vector register, has a SIB byte
 sib_there : (kind : Kind) (bank : RegisterBank) (operand : OperandMeaning) → is_vector kind ≡ true
     → IsPlaced kind bank operand → has_sib (shortest (target_of kind operand)) ≡ true
-sib_there VectorIndexed bank (memory a) vector fits = sib-shortest (At (plain a)) refl (address_named true bank a fits)
+sib_there VectorIndexed bank (memory a) vector fits = sib-shortest 1 (At (plain a)) refl (address_named true bank a fits)
 sib_there VectorIndexed bank _ vector fits = absurd fits
 sib_there _ bank operand vector fits = cc
 

@@ -270,7 +270,7 @@ address_meant row m among =
     let e = target_of row.kind (operand_of_kind names_e (slots row) m.operands) in
     let named = target (is_vector row.kind) (shortest e) (x_of e) (b_of e) in
     let kind : kind_of_target named ≡ plain_kind row.kind =
-    kind_of_target-target (is_vector row.kind) (shortest e) (x_of e) (b_of e) ∙ kind_of-shortest e
+    kind_of_target-target 1 (is_vector row.kind) (shortest e) (x_of e) (b_of e) ∙ kind_of-shortest 1 e
     ∙ kind_asked row.kind (operand_of_kind names_e (slots row) m.operands) in
     addresses_given _ _ _ _ named _ (slots row)
     ∙ ap (λ b. list_any names_e (slots row) && b) (is_at-memory named ∙ ap is_memory kind ∙ is_memory-plain row.kind)

@@ -12,7 +12,7 @@ use Rattle.x86_operand.specs.Same.{same_meaning}
 use Rattle.x86_operand.specs.Same.Lemmas.{same_meaning_equal, same_meaning_refl}
 use Rattle.x86_address.specs.Place.{Place, NoPlace, Direct, Based, RipBased, Scaled, Baseless, IsPlace, IsOfKind}
 use Rattle.x86_address.specs.Place.{has_sib, kind_of_target, target, place_bytes}
-use Rattle.x86_address.specs.Shortest.{shortest, x_of, b_of, IsSpellable}
+use Rattle.x86_address.specs.Shortest.{shortest_in, shortest, x_of, b_of, IsSpellable}
 use Rattle.x86_address.specs.Shortest.Lemmas.{is_place-shortest, kind_of-shortest, kind_of_target-target, sib-shortest}
 use Rattle.x86_address.specs.Shortest.Lemmas.{IsSpellable-target, shortest-least, x_of-target, b_of-target}
 use Rattle.x86_address.specs.Place.Lemmas.{vector_in_memory}
@@ -211,9 +211,9 @@ module _ (row : Row) (m : Meaning) (is_row : IsRow row) where
               ap number_of (no_operand names_g (slots row) operands (or_false _ _ sound.alone alone)),
               group_alone row chosen alone,
             ));
-        place = is_place-shortest e;
+        place = is_place-shortest e (inl refl);
         kind = record {
-          plain = kind_of-shortest e ∙ kind_asked row.kind (operand_of_kind names_e (slots row) operands);
+          plain = kind_of-shortest 1 e ∙ kind_asked row.kind (operand_of_kind names_e (slots row) operands);
           sib = with_sib row.kind (shortest e) placed;
         };
         group = group_fits row.group g;
@@ -258,13 +258,13 @@ asked row s is =
       | inl first ↦ inl (ap (target_of row.kind) first.operand
           ∙ e_given (index_bank row) s.fields.r s.fields.v s.reg
           (target (is_vector row.kind) s.place s.fields.x s.fields.b) s.imm row.kind first.slot first.passes
-          (kind_of_target-target (is_vector row.kind) s.place s.fields.x s.fields.b ∙ is.kind.plain))
+          (kind_of_target-target 1 (is_vector row.kind) s.place s.fields.x s.fields.b ∙ is.kind.plain))
       | inr none ↦ inr none.0
     ]
 
 -- nothing is asked for by a place with SIB, where the index is a vector register
 pub least_sib : (kind : Kind) → is_vector kind ≡ true → has_sib (shortest (target_of kind nothing)) ≡ true
-unfolding shortest
+unfolding shortest_in
 least_sib WithoutModRM vector = cc
 least_sib InRegister vector = cc
 least_sib InMemory vector = cc
@@ -274,10 +274,10 @@ least_sib VectorIndexed vector = refl
 asked_sib : (kind : Kind) (place : Place) (x b : Bool) → IsPlace place → IsOfKind kind place → is_vector kind ≡ true
     → has_sib (shortest (target (is_vector kind) place x b)) ≡ true
 asked_sib kind place x b ok is vector =
-    sib-shortest (target (is_vector kind) place x b)
-    (kind_of_target-target (is_vector kind) place x b ∙ is.plain ∙ vector_in_memory kind vector)
+    sib-shortest 1 (target (is_vector kind) place x b)
+    (kind_of_target-target 1 (is_vector kind) place x b ∙ is.plain ∙ vector_in_memory kind vector)
     (subst (λ v. IsSpellable v (target (is_vector kind) place x b)) vector
-    (IsSpellable-target (is_vector kind) place x b ok is.sib))
+    (IsSpellable-target (is_vector kind) place x b (inl refl) ok is.sib))
 
 -- so the place of the parts that are put together is of the row's kind
 placed_again : (row : Row) (s : Syntax) → IsSyntax row s → is_placed row.kind (candidate row (meant row s)).place ≡ true
@@ -338,7 +338,7 @@ no_b VectorIndexed = refl
 
 least_place : (kind : Kind) (reg reg' : ℕ) (p : Place) → IsOfKind kind p
     → length (place_bytes reg (shortest (target_of kind nothing))) ≤ length (place_bytes reg' p)
-unfolding shortest
+unfolding shortest_in
 least_place WithoutModRM reg reg' p h = omega arith
 least_place InRegister reg reg' NoPlace h = cc (h.plain)
 least_place InMemory reg reg' NoPlace h = cc (h.plain)
@@ -393,7 +393,7 @@ module _ (row : Row) (s : Syntax) (is_row : IsRow row) (is : IsSyntax row s) whe
       let reg = (candidate row (meant row s)).reg in
       elim (asked row s is) [
         | inl e ↦ subst (λ e. length (place_bytes reg (shortest e)) ≤ length (place_bytes s.reg s.place)) (sym e)
-            (shortest-least (is_vector row.kind) s.place s.fields.x s.fields.b reg s.reg is.place)
+            (shortest-least (is_vector row.kind) s.place s.fields.x s.fields.b reg s.reg (inl refl) is.place)
         | inr none ↦ subst (λ o. length (place_bytes reg (shortest (target_of row.kind o))) ≤ length
             (place_bytes s.reg s.place)) (sym none) (least_place row.kind reg s.reg s.place is.kind)
       ]
@@ -402,7 +402,7 @@ module _ (row : Row) (s : Syntax) (is_row : IsRow row) (is : IsSyntax row s) whe
   unfolding candidate gives
   x_false none = elim (asked row s is) [
     | inl e ↦ ap x_of e ∙ true_or_false (x_of (target (is_vector row.kind) s.place s.fields.x s.fields.b)) s.fields.x
-        (x_of-target (is_vector row.kind) s.place s.fields.x s.fields.b is.place) none
+        (x_of-target 1 (is_vector row.kind) s.place s.fields.x s.fields.b is.place) none
     | inr e ↦ ap (λ o. x_of (target_of row.kind o)) e ∙ no_x row.kind
   ]
 
@@ -410,7 +410,7 @@ module _ (row : Row) (s : Syntax) (is_row : IsRow row) (is : IsSyntax row s) whe
   unfolding candidate gives
   b_false none = elim (asked row s is) [
     | inl e ↦ ap b_of e ∙ true_or_false (b_of (target (is_vector row.kind) s.place s.fields.x s.fields.b)) s.fields.b
-        (b_of-target (is_vector row.kind) s.place s.fields.x s.fields.b is.place) none
+        (b_of-target 1 (is_vector row.kind) s.place s.fields.x s.fields.b is.place) none
     | inr e ↦ ap (λ o. b_of (target_of row.kind o)) e ∙ no_b row.kind
   ]
 

@@ -35,7 +35,7 @@ fn address_place(vector: bool, address: &Address) -> AddressBytes
 /// The shortest bytes of the operand E, with the field reg 0, and the bits X and B that go with them: no bytes where
 /// there is no ModRM byte, and ModRM alone for a register (Intel SDM volume 2, section 2.1.3). `vector` says whether
 /// the index of an address is a vector register, which the caller hands in with bank `Q`.
-#[tactic(auto, unfolding(x86_address::specs::Shortest::shortest))]
+#[tactic(auto, unfolding(x86_address::specs::Shortest::shortest_in))]
 pub fn place_of(vector: bool, e: OperandE) -> AddressBytes
     requires { CanBePlaced vector e }
     ensures bytes { result.bytes.items ≡ place_bytes 0 (shortest (target_seen e)) }

@@ -181,7 +181,7 @@ module _ (row : Row) (s : Syntax) (is_row : IsRow row) (is : IsSyntax row s) whe
         let first = found names_e operand (slots row) (asked _ _ (full_row row).e modrm) in
         ap (target_of (plain_kind row.kind)) first.operand
         ∙ e_given (index_bank row) s.fields.r s.fields.v s.reg e_meant s.imm (plain_kind row.kind) first.slot
-        first.passes (kind_of_target-target (is_vector row.kind) s.place s.fields.x s.fields.b ∙ is.kind.plain
+        first.passes (kind_of_target-target 1 (is_vector row.kind) s.place s.fields.x s.fields.b ∙ is.kind.plain
         ∙ sym (plain_again row.kind))
   ]
 

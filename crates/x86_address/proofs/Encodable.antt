@@ -7,13 +7,13 @@ use Rattle.x86_operand.specs.declared.address.Address.{Address}
 use Rattle.x86_operand.specs.declared.address.Index.{Index}
 use Rattle.x86_operand.specs.Register.{Register}
 use Rattle.x86_operand.specs.Kind.{Kind, InMemory, VectorIndexed, is_vector, plain_kind, memory_kind}
-use Rattle.x86_address.specs.Bytes.{Displacement, Absent, Short, Long}
+use Rattle.x86_address.specs.Bytes.{Displacement, Absent, Short, Long, IsUnit}
 use Rattle.x86_address.specs.Place.{Place, NoPlace, Direct, Based, RipBased, Scaled, Baseless, IsPlace, kind_of}
 use Rattle.x86_address.specs.Place.{mod_of_displacement, mod_of, rm_of, tail_of, place_bytes, Base, NoBase, Rip}
 use Rattle.x86_address.specs.Place.{Numbered, PlainAddress, At}
-use Rattle.x86_address.specs.Shortest.{plain, plain_base, plain_index, base_in, base_register, index_register, shortest}
+use Rattle.x86_address.specs.Shortest.{plain, plain_base, plain_index, base_in, base_register, index_register, shortest_in}
 use Rattle.x86_address.specs.Shortest.{x_of, b_of, IsBase, IsIndex, IsSpellableAddress}
-use Rattle.x86_address.specs.Spells.{SpellsAddress, BankFits, BaseFits, IndexFits, HasModRM}
+use Rattle.x86_address.specs.Spells.{SpellsAddressIn, BankFits, BaseFits, IndexFits, HasModRM}
 use Rattle.x86_address.specs.Spells.Lemmas.{scale_of_power}
 use Rattle.x86_address.specs.Place.Lemmas.{place_bytes_split, rm_of_below}
 use Rattle.x86_address.specs.Shortest.Lemmas.{is_place-shortest, kind_of-shortest, plain-in_banks}
@@ -41,23 +41,24 @@ alone (Some reg) index fits h = by_bank reg.bank reg.num fits h
     by_bank Z num fits h = absurd fits
 
 -- an address whose base and index fit is spelled by the bytes of its shortest place
-spelled_of_kind : (kind : Kind) (a : Address) → InMemory ≡ plain_kind kind → a.base ≡ base_register (plain_base a.base)
+spelled_of_kind : {unit : ℕ} (kind : Kind) (a : Address) → IsUnit unit → InMemory ≡ plain_kind kind → a.base ≡ base_register (plain_base a.base)
     → IsBase (plain_base a.base) → IsIndex (is_vector kind) (plain_index a.index) → FitsSigned w32 a.disp
     → BaseFits a.base a.index → IndexFits (is_vector kind) a.index
-    → SpellsAddress (place_bytes 0 (shortest (At (plain a)))) kind 0 (x_of (At (plain a))) (b_of (At (plain a))) a
-spelled_of_kind kind a memory bank base index disp base_fits index_fits = record {
+    → SpellsAddressIn unit (place_bytes 0 (shortest_in unit (At (plain a)))) kind 0 (x_of (At (plain a)))
+    (b_of (At (plain a))) a
+spelled_of_kind {unit} kind a is memory bank base index disp base_fits index_fits = record {
   plain_address = plain a;
-  spells = shortest_spells kind 0 (At (plain a)) (omega arith) memory
+  spells = shortest_spells unit kind 0 (At (plain a)) is (omega arith) memory
       (record { base = base; index = index; disp = disp; alone = alone a.base a.index base_fits });
   banks = λ i. record { base = bank i; index = sym (index_again (is_vector kind) a.index index_fits) i; disp = a.disp };
 }
 
-pub spelled : (vector : Bool) (a : Address) → a.base ≡ base_register (plain_base a.base) → IsBase (plain_base a.base)
+pub spelled : {unit : ℕ} (vector : Bool) (a : Address) → IsUnit unit → a.base ≡ base_register (plain_base a.base) → IsBase (plain_base a.base)
     → IsIndex vector (plain_index a.index) → FitsSigned w32 a.disp → BaseFits a.base a.index → IndexFits vector a.index
-    → SpellsAddress (place_bytes 0 (shortest (At (plain a)))) (memory_kind vector) 0 (x_of (At (plain a)))
+    → SpellsAddressIn unit (place_bytes 0 (shortest_in unit (At (plain a)))) (memory_kind vector) 0 (x_of (At (plain a)))
     (b_of (At (plain a))) a
-spelled false a = spelled_of_kind InMemory a refl
-spelled true a = spelled_of_kind VectorIndexed a refl
+spelled false a is = spelled_of_kind InMemory a is refl
+spelled true a is = spelled_of_kind VectorIndexed a is refl
 
 -- a base that gets its bank fits
 base_given : (base : Base) (index : Option (ℕ × ℕ)) → (base ≡ Rip → index ≡ None)
@@ -73,28 +74,28 @@ index_given vector None ok = ok
 index_given vector (Some index) ok = (refl, ok.1, scale_of_power index.1 (ok.2, ok.3, ok.4))
 
 -- an address that bytes spell has a base and an index that fit
-spelled_fits_kind : (bytes : List ℕ) (kind : Kind) (reg : ℕ) (x b : Bool) (a : Address)
-    → SpellsAddress bytes kind reg x b a → BaseFits a.base a.index × IndexFits (is_vector kind) a.index
-spelled_fits_kind bytes kind reg x b a s =
+spelled_fits_kind : {unit : ℕ} (bytes : List ℕ) (kind : Kind) (reg : ℕ) (x b : Bool) (a : Address) → IsUnit unit
+    → SpellsAddressIn unit bytes kind reg x b a → BaseFits a.base a.index × IndexFits (is_vector kind) a.index
+spelled_fits_kind {unit} bytes kind reg x b a is s =
     let ok : IsSpellableAddress (is_vector kind) s.plain_address =
-    (only_spellable bytes kind reg x b (At s.plain_address) s.spells).1 in
+    (only_spellable unit bytes kind reg x b (At s.plain_address) is s.spells).1 in
     subst (λ (a : Address). BaseFits a.base a.index × IndexFits (is_vector kind) a.index) (sym s.banks) (
       base_given s.plain_address.base s.plain_address.index ok.alone,
       index_given (is_vector kind) s.plain_address.index ok.index,
     )
 
-pub spelled_fits : (vector : Bool) (bytes : List ℕ) (reg : ℕ) (x b : Bool) (a : Address)
-    → SpellsAddress bytes (memory_kind vector) reg x b a → BaseFits a.base a.index × IndexFits vector a.index
-spelled_fits false bytes reg x b a s = spelled_fits_kind bytes InMemory reg x b a s
-spelled_fits true bytes reg x b a s = spelled_fits_kind bytes VectorIndexed reg x b a s
+pub spelled_fits : {unit : ℕ} (vector : Bool) (bytes : List ℕ) (reg : ℕ) (x b : Bool) (a : Address) → IsUnit unit
+    → SpellsAddressIn unit bytes (memory_kind vector) reg x b a → BaseFits a.base a.index × IndexFits vector a.index
+spelled_fits false bytes reg x b a is s = spelled_fits_kind bytes InMemory reg x b a is s
+spelled_fits true bytes reg x b a is s = spelled_fits_kind bytes VectorIndexed reg x b a is s
 
 -- no bytes that spell it are fewer than those of its shortest place
-pub spelled_least : (bytes : List ℕ) (kind : Kind) (reg : ℕ) (x b : Bool) (a : Address)
-    → SpellsAddress bytes kind reg x b a → length (place_bytes 0 (shortest (At (plain a)))) ≤ length bytes
-spelled_least bytes kind reg x b a s =
-    subst (λ (p : PlainAddress). length (place_bytes 0 (shortest (At p))) ≤ length bytes)
+pub spelled_least : {unit : ℕ} (bytes : List ℕ) (kind : Kind) (reg : ℕ) (x b : Bool) (a : Address) → IsUnit unit
+    → SpellsAddressIn unit bytes kind reg x b a → length (place_bytes 0 (shortest_in unit (At (plain a)))) ≤ length bytes
+spelled_least {unit} bytes kind reg x b a is s =
+    subst (λ (p : PlainAddress). length (place_bytes 0 (shortest_in unit (At p))) ≤ length bytes)
     (sym (ap plain s.banks ∙ plain-in_banks Q s.plain_address))
-    (shortest_is_least bytes kind reg 0 x b (At s.plain_address) s.spells)
+    (shortest_is_least unit bytes kind reg 0 x b (At s.plain_address) is s.spells)
 
 -- the mod of a displacement is not 3
 mod_below : (d : Displacement) → mod_of_displacement d < 3
@@ -125,5 +126,7 @@ has_modrm_byte place ok kind =
     }
 
 -- so is that of the shortest place of an address
-pub shortest_modrm : (a : PlainAddress) → HasModRM (place_bytes 0 (shortest (At a))) (shortest (At a))
-shortest_modrm a = has_modrm_byte (shortest (At a)) (is_place-shortest (At a)) (kind_of-shortest (At a))
+pub shortest_modrm : {unit : ℕ} (a : PlainAddress) → IsUnit unit
+    → HasModRM (place_bytes 0 (shortest_in unit (At a))) (shortest_in unit (At a))
+shortest_modrm {unit} a is =
+    has_modrm_byte (shortest_in unit (At a)) (is_place-shortest (At a) is) (kind_of-shortest unit (At a))

@@ -3,8 +3,8 @@ use Rattle.std.proofs.Common.{◌≡◌, ◌≢◌, ◌⊎◌, inl, inr, ⊎_eli
 use Rattle.std.proofs.Common.{sym, ap, ◌∙◌, subst, subst₂, append-nil}
 use Rattle.x86_operand.specs.Kind.{Kind, WithoutModRM, InRegister, InMemory, is_vector, plain_kind}
 use Rattle.x86_address.specs.Place.{Place, NoPlace, IsPlace, kind_of, mod_of, rm_of, tail_of, place_bytes, Target}
-use Rattle.x86_address.specs.Place.{kind_of_target, target, SpellsTarget}
-use Rattle.x86_address.specs.Shortest.{shortest, x_of, b_of, IsSpellable}
+use Rattle.x86_address.specs.Place.{kind_of_target, target_in, SpellsTargetIn}
+use Rattle.x86_address.specs.Shortest.{shortest_in, x_of, b_of, IsSpellable}
 use Rattle.x86_address.specs.Laws.{OnlySpellable, ShortestSpells, ShortestIsLeast, XIsFixed, BIsFixed, DemandedIsSet}
 use Rattle.x86_address.specs.Laws.{ReadingFails, OnePlace, OneReading}
 use Rattle.x86_address.specs.Bytes.Lemmas.{same_fields}
@@ -19,37 +19,38 @@ use Rattle.x86_address.specs.Shortest.Lemmas.{b_fixed_or_ignored, x_of-target, b
 
 -- what bytes spell is in range, and of their kind
 pub only_spellable : OnlySpellable
-only_spellable bytes kind reg x b e s =
+only_spellable unit bytes kind reg x b e is s =
     subst (λ e. (kind_of_target e ≡ plain_kind kind) × IsSpellable (is_vector kind) e) (sym s.names) (
-      kind_of_target-target (is_vector kind) s.place x b ∙ s.is_kind.plain,
-      IsSpellable-target (is_vector kind) s.place x b s.is_place s.is_kind.sib,
+      kind_of_target-target unit (is_vector kind) s.place x b ∙ s.is_kind.plain,
+      IsSpellable-target (is_vector kind) s.place x b is s.is_place s.is_kind.sib,
     )
 
 -- the shortest place spells what can be spelled
 pub shortest_spells : ShortestSpells
-shortest_spells kind reg e below k ok = record {
+shortest_spells unit kind reg e is below k ok = record {
   is_reg = below;
-  place = shortest e;
-  is_place = is_place-shortest e;
+  place = shortest_in unit e;
+  is_place = is_place-shortest e is;
   is_kind = record {
-    plain = kind_of-shortest e ∙ k;
-    sib = λ vector. sib-shortest e (k ∙ vector_in_memory kind vector) (subst (λ v. IsSpellable v e) vector ok);
+    plain = kind_of-shortest unit e ∙ k;
+    sib = λ vector. sib-shortest unit e (k ∙ vector_in_memory kind vector) (subst (λ v. IsSpellable v e) vector ok);
   };
   written = refl;
-  names = sym (names-shortest (is_vector kind) e ok);
+  names = sym (names-shortest (is_vector kind) e is ok);
 }
 
 -- no bytes that spell it are fewer
 pub shortest_is_least : ShortestIsLeast
-shortest_is_least bytes kind reg other x b e s =
-    subst₂ (λ e bytes. length (place_bytes other (shortest e)) ≤ length bytes) (sym s.names) (sym s.written)
-    (shortest-least (is_vector kind) s.place x b other reg s.is_place)
+shortest_is_least unit bytes kind reg other x b e is s =
+    subst₂ (λ e bytes. length (place_bytes other (shortest_in unit e)) ≤ length bytes) (sym s.names) (sym s.written)
+    (shortest-least (is_vector kind) s.place x b other reg is s.is_place)
 
 -- the same bytes with other bits, where they name the same
-spells_with : (bytes : List ℕ) (kind : Kind) (reg : ℕ) (x b x' b' : Bool) (e : Target)
-    → (s : SpellsTarget bytes kind reg x b e)
-    → target (is_vector kind) s.place x' b' ≡ target (is_vector kind) s.place x b → SpellsTarget bytes kind reg x' b' e
-spells_with bytes kind reg x b x' b' e s same = record {
+spells_with : (unit : ℕ) (bytes : List ℕ) (kind : Kind) (reg : ℕ) (x b x' b' : Bool) (e : Target)
+    → (s : SpellsTargetIn unit bytes kind reg x b e)
+    → target_in unit (is_vector kind) s.place x' b' ≡ target_in unit (is_vector kind) s.place x b
+    → SpellsTargetIn unit bytes kind reg x' b' e
+spells_with unit bytes kind reg x b x' b' e s same = record {
   is_reg = s.is_reg;
   place = s.place;
   is_place = s.is_place;
@@ -60,21 +61,21 @@ spells_with bytes kind reg x b x' b' e s same = record {
 
 -- X is as the target demands, or plays no part
 pub x_is_fixed : XIsFixed
-x_is_fixed bytes kind reg x b e s =
-    ⊎_elim (λ ignored. inr (λ other. spells_with bytes kind reg x b other b e s (ignored other)))
-    (λ fixed. inl (sym fixed ∙ ap x_of (sym s.names))) (x_fixed_or_ignored (is_vector kind) s.place x b s.is_place)
+x_is_fixed unit bytes kind reg x b e s =
+    ⊎_elim (λ ignored. inr (λ other. spells_with unit bytes kind reg x b other b e s (ignored other)))
+    (λ fixed. inl (sym fixed ∙ ap x_of (sym s.names))) (x_fixed_or_ignored unit (is_vector kind) s.place x b s.is_place)
 
 -- B is as the target demands, or plays no part
 pub b_is_fixed : BIsFixed
-b_is_fixed bytes kind reg x b e s =
-    ⊎_elim (λ ignored. inr (λ other. spells_with bytes kind reg x b x other e s (ignored other)))
-    (λ fixed. inl (sym fixed ∙ ap b_of (sym s.names))) (b_fixed_or_ignored (is_vector kind) s.place x b s.is_place)
+b_is_fixed unit bytes kind reg x b e s =
+    ⊎_elim (λ ignored. inr (λ other. spells_with unit bytes kind reg x b x other e s (ignored other)))
+    (λ fixed. inl (sym fixed ∙ ap b_of (sym s.names))) (b_fixed_or_ignored unit (is_vector kind) s.place x b s.is_place)
 
 -- a bit that is demanded is 1
 pub demanded_is_set : DemandedIsSet
-demanded_is_set bytes kind reg x b e s =
+demanded_is_set unit bytes kind reg x b e s =
     subst (λ e. (x_of e ≡ true → x ≡ true) × (b_of e ≡ true → b ≡ true)) (sym s.names)
-    (x_of-target (is_vector kind) s.place x b s.is_place, b_of-target (is_vector kind) s.place x b s.is_place)
+    (x_of-target unit (is_vector kind) s.place x b s.is_place, b_of-target unit (is_vector kind) s.place x b s.is_place)
 
 -- places that are read from one string by one mod and rm are one
 same_place : (p p' : Place) (rest rest' : List ℕ) → IsPlace p → IsPlace p'
@@ -118,7 +119,7 @@ modrm_follows reg reg' p p' more has same none =
 
 -- address bytes begin no other's, and name one target
 pub one_reading : OneReading
-one_reading bytes more kind kind' reg reg' x b e e' modrm s s' =
+one_reading unit bytes more kind kind' reg reg' x b e e' modrm s s' =
     let has = has_modrm s.place (λ none. modrm (plain_without kind (sym s.is_kind.plain ∙ none))) in
     let same = ap (λ bytes. bytes ++ more) (sym s.written) ∙ s'.written in
     let has' = has_modrm s'.place (modrm_follows reg reg' s.place s'.place more has same) in
@@ -127,8 +128,8 @@ one_reading bytes more kind kind' reg reg' x b e e' modrm s s' =
       one.2,
       one.0,
       sym s.is_kind.plain ∙ ap kind_of one.1 ∙ s'.is_kind.plain,
-      λ kinds. s.names ∙ ap (λ p. target (is_vector kind) p x b) one.1
-          ∙ ap (λ k. target (is_vector k) s'.place x b) kinds ∙ sym s'.names,
+      λ kinds. s.names ∙ ap (λ p. target_in unit (is_vector kind) p x b) one.1
+          ∙ ap (λ k. target_in unit (is_vector k) s'.place x b) kinds ∙ sym s'.names,
     )
 
 -- reading fails only where no byte is left

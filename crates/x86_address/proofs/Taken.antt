@@ -162,7 +162,7 @@ cut_short kind {modrm} {x} {b} {bytes = bytes} after stops lacking =
     let more = completable_place (modrm / 64) (modrm % 8) bytes failed in
     let are = IsBytes-append bytes more.missing (IsBytes-taken stops.passes) more.are in
     let named = address_in_memory (target (is_vector kind) more.value x b)
-    (kind_of_target-target (is_vector kind) more.value x b
+    (kind_of_target-target 1 (is_vector kind) more.value x b
     ∙ kind_in_memory modrm (bytes ++ more.missing) more.value after.memory are more.answers) in
     record {
       bytes = bytes;

@@ -1,5 +1,6 @@
 pub mod Lemmas
-use Rattle.std.specs.Prelude.{◌≡◌, ℕ, ◌/◌, ◌%◌, ◌^◌, ◌<◌, ℤ, pos, Bool, true, false, List, [], ◌∷◌, ◌++◌}
+use Rattle.std.specs.Prelude.{◌≡◌, ◌⊎◌, ℕ, ◌/◌, ◌%◌, ◌^◌, ◌<◌, ◌==◌, ℤ, pos, ◌*ℤ◌, Bool, true, false, List, [], ◌∷◌}
+use Rattle.std.specs.Prelude.{◌++◌, if◌then◌else◌}
 use Rattle.std.specs.Int.{cast_signed, w8, w32}
 use Rattle.std.specs.List.{AllByRecursion}
 
@@ -38,8 +39,21 @@ displacement_bytes Absent = []
 displacement_bytes (Short n) = n ∷ []
 displacement_bytes (Long n) = doubleword_bytes n
 
--- what it adds to an address: 0, or the two's complement value of its bytes
+-- the unit in which a displacement of one byte counts: 1, or the bytes of the operand in memory after an EVEX prefix
+-- (Intel SDM volume 2, section 2.7.5)
+abbrev pub IsUnit : ℕ → Type 0
+IsUnit unit = (unit ≡ 1) ⊎ ((unit ≡ 16) ⊎ ((unit ≡ 32) ⊎ (unit ≡ 64)))
+
+-- so many units: as many as there are where the unit is 1, which computes for every number
+abbrev pub in_units : ℕ → ℤ → ℤ
+in_units unit value = if unit == 1 then value else pos unit *ℤ value
+
+-- what a displacement adds to an address: 0, or the two's complement value of its bytes, one byte in units
+abbrev pub displacement_value_in : ℕ → Displacement → ℤ
+displacement_value_in unit Absent = pos 0
+displacement_value_in unit (Short n) = in_units unit (cast_signed w8 n)
+displacement_value_in unit (Long n) = cast_signed w32 n
+
+-- in units of 1
 abbrev pub displacement_value : Displacement → ℤ
-displacement_value Absent = pos 0
-displacement_value (Short n) = cast_signed w8 n
-displacement_value (Long n) = cast_signed w32 n
+displacement_value d = displacement_value_in 1 d

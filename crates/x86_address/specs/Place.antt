@@ -4,7 +4,7 @@ use Rattle.std.specs.Prelude.{Some, None, ◌==◌, if◌then◌else◌}
 use Rattle.std.specs.Int.{cast_signed, w32}
 use Rattle.x86_operand.specs.Kind.{Kind, WithoutModRM, InRegister, InMemory, is_vector, plain_kind}
 use Rattle.x86_address.specs.Bytes.{bit, doubleword_bytes, Displacement, Absent, Short, Long, IsDisplacement}
-use Rattle.x86_address.specs.Bytes.{displacement_bytes, displacement_value}
+use Rattle.x86_address.specs.Bytes.{displacement_bytes, displacement_value_in}
 
 -- how the bytes from ModRM on name the operand E, by its fields: rm of ModRM, or the scale's exponent k, the index
 -- field i and the base field j of SIB, and the displacement (Intel SDM volume 2, tables 2-2 and 2-3)
@@ -122,24 +122,34 @@ kind_of_target (At a) = InMemory
 abbrev pub index_of : Bool → ℕ → ℕ → Bool → Option (ℕ × ℕ)
 index_of vector k i x = if not vector && i + 8 * bit x == 4 then None else Some (i + 8 * bit x, 2 ^ k)
 
--- what a place names, with the bits X and B of the prefix, and by whether the index is a vector register
--- (Intel SDM volume 2, sections 2.1.5, 2.2.1.6, 2.3.5.3, 2.3.5.4, 2.3.8 and 2.3.12)
-abbrev pub target : Bool → Place → Bool → Bool → Target
-target vector NoPlace x b = NoTarget
-target vector (Direct rm) x b = Number (rm + 8 * bit b)
-target vector (Based rm d) x b = At (record
-    { base = Numbered (rm + 8 * bit b); index = None; disp = displacement_value d })
-target vector (RipBased n) x b = At (record { base = Rip; index = None; disp = cast_signed w32 n })
-target vector (Scaled k i j d) x b = At (record
-    { base = Numbered (j + 8 * bit b); index = index_of vector k i x; disp = displacement_value d })
-target vector (Baseless k i n) x b = At (record
+-- what a place names, with the bits X and B of the prefix, by whether the index is a vector register, and with a
+-- displacement of one byte in units
+-- (Intel SDM volume 2, sections 2.1.5, 2.2.1.6, 2.3.5.3, 2.3.5.4, 2.3.8, 2.3.12 and 2.7.5)
+abbrev pub target_in : ℕ → Bool → Place → Bool → Bool → Target
+target_in unit vector NoPlace x b = NoTarget
+target_in unit vector (Direct rm) x b = Number (rm + 8 * bit b)
+target_in unit vector (Based rm d) x b = At (record
+    { base = Numbered (rm + 8 * bit b); index = None; disp = displacement_value_in unit d })
+target_in unit vector (RipBased n) x b = At (record { base = Rip; index = None; disp = cast_signed w32 n })
+target_in unit vector (Scaled k i j d) x b = At (record
+    { base = Numbered (j + 8 * bit b); index = index_of vector k i x; disp = displacement_value_in unit d })
+target_in unit vector (Baseless k i n) x b = At (record
     { base = NoBase; index = index_of vector k i x; disp = cast_signed w32 n })
 
--- the bytes spell what is named, of this kind, with this reg field and these bits X and B
-pub record SpellsTarget (bytes : List ℕ) (kind : Kind) (reg : ℕ) (x b : Bool) (named : Target) : Type 0 where
+-- in units of 1
+abbrev pub target : Bool → Place → Bool → Bool → Target
+target vector place x b = target_in 1 vector place x b
+
+-- the bytes spell what is named, of this kind, with this reg field and these bits X and B, and a displacement of one
+-- byte in units
+pub record SpellsTargetIn (unit : ℕ) (bytes : List ℕ) (kind : Kind) (reg : ℕ) (x b : Bool) (named : Target) : Type 0 where
   pub is_reg : reg < 8
   pub place : Place
   pub is_place : IsPlace place
   pub is_kind : IsOfKind kind place
   pub written : bytes ≡ place_bytes reg place
-  pub names : named ≡ target (is_vector kind) place x b
+  pub names : named ≡ target_in unit (is_vector kind) place x b
+
+-- in units of 1
+abbrev pub SpellsTarget : List ℕ → Kind → ℕ → Bool → Bool → Target → Type 0
+SpellsTarget bytes kind reg x b named = SpellsTargetIn 1 bytes kind reg x b named

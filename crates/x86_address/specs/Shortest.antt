@@ -1,5 +1,5 @@
 pub mod Lemmas
-use Rattle.std.specs.Prelude.{◌≡◌, ◌≢◌, ◌<◌, FitsSigned, ℕ, ◌-◌, ◌/◌, ◌%◌, ◌^◌, ℤ, pos, negsuc, Bool, true, false, not}
+use Rattle.std.specs.Prelude.{◌≡◌, ◌≢◌, ◌<◌, FitsSigned, ℕ, suc, ◌-◌, ◌/◌, ◌%◌, ◌^◌, ℤ, pos, negsuc, Bool, true, false, not}
 use Rattle.std.specs.Prelude.{◌&&◌, ◌||◌, nat_lt, Option, Some, None, ◌==◌, if◌then◌else◌}
 use Rattle.std.specs.Int.{w32}
 use Rattle.x86_operand.specs.declared.register.RegisterBank.{RegisterBank}
@@ -50,12 +50,15 @@ abbrev pub doubleword_of : ℤ → ℕ
 doubleword_of (pos n) = n % 2 ^ 32
 doubleword_of (negsuc n) = (2 ^ 32 - 1 - n) % 2 ^ 32
 
--- the shortest displacement of a value, which is written even for 0 where it has to be
-abbrev pub shortest_displacement : Bool → ℤ → Displacement
-shortest_displacement must (pos n) =
-    if n == 0 && not must then Absent else if nat_lt n 128 then Short n else Long (doubleword_of (pos n))
-shortest_displacement must (negsuc n) =
-    if nat_lt n 128 then Short (255 - n) else Long (doubleword_of (negsuc n))
+-- the shortest displacement of a value, which is written even for 0 where it has to be: one byte where that many units
+-- are the value
+abbrev pub shortest_displacement : ℕ → Bool → ℤ → Displacement
+shortest_displacement unit must (pos n) =
+    if n == 0 && not must then Absent
+    else if n % unit == 0 && nat_lt (n / unit) 128 then Short (n / unit) else Long (doubleword_of (pos n))
+shortest_displacement unit must (negsuc n) =
+    if suc n % unit == 0 && nat_lt (suc n / unit) 129 then Short (256 - suc n / unit)
+    else Long (doubleword_of (negsuc n))
 
 -- the exponent k of a scale 2 to the power k, for the scales 1, 2, 4 and 8
 abbrev pub exponent_of : ℕ → ℕ
@@ -77,23 +80,28 @@ has_index None = false
 has_index (Some index) = true
 
 -- a base register has a SIB byte only where there is an index, or its low three bits are 4
-abbrev pub place_of_numbered : ℕ → Option (ℕ × ℕ) → ℤ → Place
-place_of_numbered n index disp =
+abbrev pub place_of_numbered : ℕ → ℕ → Option (ℕ × ℕ) → ℤ → Place
+place_of_numbered unit n index disp =
     if has_index index || n % 8 == 4
-    then Scaled (exponent_field index) (index_field index) (n % 8) (shortest_displacement (n % 8 == 5) disp)
-    else Based (n % 8) (shortest_displacement (n % 8 == 5) disp)
+    then Scaled (exponent_field index) (index_field index) (n % 8) (shortest_displacement unit (n % 8 == 5) disp)
+    else Based (n % 8) (shortest_displacement unit (n % 8 == 5) disp)
 
 -- the least place that can name the address with this base, index and displacement, where a place can
-abbrev pub place_of_base : Base → Option (ℕ × ℕ) → ℤ → Place
-place_of_base NoBase index disp = Baseless (exponent_field index) (index_field index) (doubleword_of disp)
-place_of_base Rip index disp = RipBased (doubleword_of disp)
-place_of_base (Numbered n) index disp = place_of_numbered n index disp
+abbrev pub place_of_base : ℕ → Base → Option (ℕ × ℕ) → ℤ → Place
+place_of_base unit NoBase index disp = Baseless (exponent_field index) (index_field index) (doubleword_of disp)
+place_of_base unit Rip index disp = RipBased (doubleword_of disp)
+place_of_base unit (Numbered n) index disp = place_of_numbered unit n index disp
 
--- the least place that can name this target; where no place does, some other place
-unfoldable pub shortest : Target → Place
-shortest NoTarget = NoPlace
-shortest (Number n) = Direct (n % 8)
-shortest (At a) = place_of_base a.base a.index a.disp
+-- the least place that can name this target, with a displacement of one byte in units; where no place does, some other
+-- place
+unfoldable pub shortest_in : ℕ → Target → Place
+shortest_in unit NoTarget = NoPlace
+shortest_in unit (Number n) = Direct (n % 8)
+shortest_in unit (At a) = place_of_base unit a.base a.index a.disp
+
+-- in units of 1
+abbrev pub shortest : Target → Place
+shortest e = shortest_in 1 e
 
 -- whether bit 3 of a number is set, which a prefix bit says
 abbrev pub is_upper : ℕ → Bool

@@ -6,16 +6,20 @@ use Rattle.x86_operand.specs.declared.address.Address.{Address}
 use Rattle.x86_operand.specs.declared.address.Index.{Index}
 use Rattle.x86_operand.specs.Register.{Register}
 use Rattle.x86_operand.specs.Kind.{Kind}
-use Rattle.x86_address.specs.Place.{Place, place_bytes, PlainAddress, At, SpellsTarget}
+use Rattle.x86_address.specs.Place.{Place, place_bytes, PlainAddress, At, SpellsTargetIn}
 use Rattle.x86_address.specs.Shortest.{in_banks, MayBeIndex}
 
--- the bytes spell this address of a kind in memory, with this reg field and these bits X and B: its base is in bank Q
--- or
--- RIP, and its index in bank Q
-pub record SpellsAddress (bytes : List ℕ) (kind : Kind) (reg : ℕ) (x b : Bool) (address : Address) : Type 0 where
-  pub plain_address : PlainAddress
-  pub spells : SpellsTarget bytes kind reg x b (At plain_address)
-  pub banks : address ≡ in_banks Q plain_address
+-- the bytes spell this address of a kind in memory, with this reg field and these bits X and B, and a displacement of
+-- one byte in units: its base is in bank Q or RIP, and its index in bank Q
+pub record SpellsAddressIn (unit : ℕ) (bytes : List ℕ) (kind : Kind) (reg : ℕ) (x b : Bool) (address : Address) : Type 0
+  where
+    pub plain_address : PlainAddress
+    pub spells : SpellsTargetIn unit bytes kind reg x b (At plain_address)
+    pub banks : address ≡ in_banks Q plain_address
+
+-- in units of 1
+abbrev pub SpellsAddress : List ℕ → Kind → ℕ → Bool → Bool → Address → Type 0
+SpellsAddress bytes kind reg x b address = SpellsAddressIn 1 bytes kind reg x b address
 
 -- the base is of bank Q, or the instruction pointer with no index beside it
 abbrev pub BankFits : RegisterBank → Option Index → Type 0

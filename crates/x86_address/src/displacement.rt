@@ -2,7 +2,7 @@
 
 ghost use Rattle.std.specs.Prelude.{◌≡◌, ◌≤◌, ◌++◌};
 ghost use Rattle.arrayvec.specs.ArrayVec.{array_vec_len};
-ghost use Rattle.x86_address.specs.Bytes.{doubleword_bytes, displacement_bytes};
+ghost use Rattle.x86_address.specs.Bytes.{doubleword_bytes, displacement_bytes, IsUnit};
 ghost use Rattle.x86_address.specs.Place.{mod_of_displacement};
 ghost use Rattle.x86_address.specs.Shortest.{doubleword_of, shortest_displacement};
 ghost use Rattle.x86_address.specs.Written.{displacement_of};
@@ -18,15 +18,21 @@ pub(crate) enum Written {
 }
 
 impl Written {
-    /// The shortest way to write this value; 0 needs no byte, except where one must stand.
-    pub(crate) fn shortest(value: i32, must: bool) -> Written
-        ensures { displacement_of result ≡ shortest_displacement must value }
+    /// The shortest way to write this value, with a byte that counts in units; 0 needs no byte, except where one must
+    /// stand.
+    pub(crate) fn shortest(value: i32, must: bool, unit: u8) -> Written
+        requires { IsUnit unit }
+        ensures { displacement_of result ≡ shortest_displacement unit must value }
     {
         if value == 0 && !must {
             return Written::Nothing;
         }
-        match i8::try_from(value) {
-            Ok(byte) => Written::Byte(byte),
+        let unit = i32::from(unit);
+        if value % unit != 0 {
+            return Written::Doubleword(value);
+        }
+        match i8::try_from(value / unit) {
+            Ok(count) => Written::Byte(count),
             Err(_) => Written::Doubleword(value),
         }
     }

@@ -3,11 +3,12 @@
 ghost use Rattle.std.specs.Prelude.{◌≡◌, ◌↔◌, ◌≤◌, ◌+◌, ◌*◌, ◌%◌, ◌<◌, ◌==◌, true, false, IsTrue, IsSome, IsNone};
 ghost use Rattle.std.specs.Prelude.{IfSome, ℕ, Bool, List, length};
 ghost use Rattle.x86_operand.specs.Kind.{InMemory, VectorIndexed, memory_kind};
-ghost use Rattle.x86_address.specs.Place.{place_bytes, NoBase, Rip, Numbered, At};
-ghost use Rattle.x86_address.specs.Shortest.{plain, plain_base, base_register, plain_index, exponent_of};
-ghost use Rattle.x86_address.specs.Shortest.{exponent_field, index_field, place_of_base, shortest, is_upper};
+ghost use Rattle.x86_address.specs.Bytes.{IsUnit};
+ghost use Rattle.x86_address.specs.Place.{place_bytes, RipBased, Baseless, Numbered, At};
+ghost use Rattle.x86_address.specs.Shortest.{plain, plain_base, base_register, plain_index, doubleword_of, exponent_of};
+ghost use Rattle.x86_address.specs.Shortest.{exponent_field, index_field, place_of_base, shortest_in, shortest, is_upper};
 ghost use Rattle.x86_address.specs.Shortest.{x_of_index, b_of_base, x_of, b_of, IsBase, MayBeIndex, IsIndex};
-ghost use Rattle.x86_address.specs.Spells.{SpellsAddress, BaseFits, IsScale, IsPower, IndexFits, HasModRM};
+ghost use Rattle.x86_address.specs.Spells.{SpellsAddressIn, SpellsAddress, BaseFits, IsScale, IsPower, IndexFits, HasModRM};
 
 use crate::displacement::{Written, append_doubleword};
 use arrayvec::ArrayVec;
@@ -136,7 +137,8 @@ fn sib(index: Option<Index>, base: u8) -> u8
 
 /// The bytes of an address with no base.
 fn baseless(index: Option<Index>, disp: i32) -> ArrayVec<u8, 6>
-    ensures { result.items ≡ place_bytes 0 (place_of_base NoBase (plain_index index) disp) }
+    ensures { result.items ≡ place_bytes 0 (Baseless (exponent_field (plain_index index))
+        (index_field (plain_index index)) (doubleword_of disp)) }
 {
     let mut bytes = ArrayVec::new();
     bytes.push(pack_fields(0, 0, 4));
@@ -147,7 +149,7 @@ fn baseless(index: Option<Index>, disp: i32) -> ArrayVec<u8, 6>
 
 /// The bytes of an address that is relative to the instruction pointer.
 fn rip_based(disp: i32) -> ArrayVec<u8, 6>
-    ensures { result.items ≡ place_bytes 0 (place_of_base Rip None disp) }
+    ensures { result.items ≡ place_bytes 0 (RipBased (doubleword_of disp)) }
 {
     let mut bytes = ArrayVec::new();
     bytes.push(pack_fields(0, 0, 5));
@@ -157,11 +159,12 @@ fn rip_based(disp: i32) -> ArrayVec<u8, 6>
 
 /// The bytes of an address with a base register. Its low bits 4 in ModRM mean SIB, and its low bits 5 with mod 0 no
 /// base.
-fn based(num: u8, index: Option<Index>, disp: i32) -> ArrayVec<u8, 6>
-    ensures { result.items ≡ place_bytes 0 (place_of_base (Numbered num) (plain_index index) disp) }
+fn based(num: u8, index: Option<Index>, disp: i32, unit: u8) -> ArrayVec<u8, 6>
+    requires { IsUnit unit }
+    ensures { result.items ≡ place_bytes 0 (place_of_base unit (Numbered num) (plain_index index) disp) }
 {
     let base = num % 8;
-    let displacement = Written::shortest(disp, base == 5);
+    let displacement = Written::shortest(disp, base == 5, unit);
     let mut bytes = ArrayVec::new();
     if index.is_some() || base == 4 {
         bytes.push(pack_fields(displacement.mode(), 0, 4));
@@ -174,31 +177,42 @@ fn based(num: u8, index: Option<Index>, disp: i32) -> ArrayVec<u8, 6>
 }
 
 /// The bytes of the address with these parts, where bytes can name it.
-fn address_bytes(base: Option<RegSpec>, index: Option<Index>, disp: i32) -> ArrayVec<u8, 6>
-    ensures { result.items ≡ place_bytes 0 (place_of_base (plain_base base) (plain_index index) disp) }
+fn address_bytes(
+    base: Option<RegSpec>,
+    index: Option<Index>,
+    disp: i32,
+    unit: u8,
+) -> ArrayVec<u8, 6>
+    requires { IsUnit unit }
+    ensures { result.items ≡ place_bytes 0 (place_of_base unit (plain_base base) (plain_index index) disp) }
 {
     match base {
         None => baseless(index, disp),
         Some(base) if base.bank() == RegisterBank::RIP => rip_based(disp),
-        Some(base) => based(base.num(), index, disp),
+        Some(base) => based(base.num(), index, disp, unit),
     }
 }
 
-/// The shortest bytes that spell an address, whose index is a vector register or not.
-fn shortest_of_kind(vector: bool, address: &Address) -> Option<AddressBytes>
+/// The shortest bytes that spell an address, whose index is a vector register or not, with a displacement of one byte
+/// in units.
+fn shortest_of_kind(vector: bool, unit: u8, address: &Address) -> Option<AddressBytes>
+    requires { IsUnit unit }
     ensures bytes { IfSome result (λ found.
-        found.bytes.items ≡ place_bytes 0 (shortest (At (plain address.now)))) }
+        found.bytes.items ≡ place_bytes 0 (shortest_in unit (At (plain address.now)))) }
     ensures x { IfSome result (λ found. found.x ≡ x_of (At (plain address.now))) }
     ensures b { IfSome result (λ found. found.b ≡ b_of (At (plain address.now))) }
-    ensures spells { IfSome result (λ found. SpellsAddress found.bytes.items (memory_kind vector) 0 found.x found.b
-        address.now) }
+    ensures spells { IfSome result (λ found. SpellsAddressIn unit found.bytes.items (memory_kind vector) 0 found.x
+        found.b address.now) }
     ensures least { IfSome result (λ found. (bytes : List ℕ) (reg : ℕ) (x b : Bool)
-        → SpellsAddress bytes (memory_kind vector) reg x b address.now → length found.bytes.items ≤ length bytes) }
+        → SpellsAddressIn unit bytes (memory_kind vector) reg x b address.now
+        → length found.bytes.items ≤ length bytes) }
     ensures none { IsNone result ↔ ((bytes : List ℕ) (reg : ℕ) (x b : Bool)
-        → ¬ (SpellsAddress bytes (memory_kind vector) reg x b address.now)) }
+        → ¬ (SpellsAddressIn unit bytes (memory_kind vector) reg x b address.now)) }
+    ensures others { (other : ℕ) → IsUnit other → (IsNone result ↔ ((bytes : List ℕ) (reg : ℕ) (x b : Bool)
+        → ¬ (SpellsAddressIn other bytes (memory_kind vector) reg x b address.now))) }
     ensures cases { IsSome result ↔ (BaseFits address.now.base address.now.index × IndexFits vector address.now.index) }
     ensures most { IfSome result (λ found. length found.bytes.items ≤ 6) }
-    ensures modrm { IfSome result (λ found. HasModRM found.bytes.items (shortest (At (plain address.now)))) }
+    ensures modrm { IfSome result (λ found. HasModRM found.bytes.items (shortest_in unit (At (plain address.now)))) }
 {
     if !base_fits(address.base, address.index) || !index_fits(vector, address.index) {
         return None;
@@ -206,7 +220,7 @@ fn shortest_of_kind(vector: bool, address: &Address) -> Option<AddressBytes>
     Some(AddressBytes {
         x: index_is_upper(address.index),
         b: base_is_upper(address.base),
-        bytes: address_bytes(address.base, address.index, address.disp),
+        bytes: address_bytes(address.base, address.index, address.disp, unit),
     })
 }
 
@@ -243,7 +257,42 @@ pub fn shortest_address(address: &Address) -> Option<AddressBytes>
     ensures most { IfSome result (λ found. length found.bytes.items ≤ 6) }
     ensures modrm { IfSome result (λ found. HasModRM found.bytes.items (shortest (At (plain address.now)))) }
 {
-    shortest_of_kind(false, address)
+    shortest_of_kind(false, 1, address)
+}
+
+/// The shortest bytes that spell an address in memory where a displacement of one byte counts in units, with the bits X
+/// and B that go with them. The factor is how many bytes a unit has: after an EVEX prefix the operand's size in memory,
+/// 16, 32 or 64, and else 1.
+///
+/// There is one byte of displacement where the displacement is the factor times a number from -128 to 127, and that
+/// number is the byte; all else is as `shortest_address` has it, which answers the same for the factor 1. (Intel SDM
+/// volume 2, section 2.7.5.)
+///
+/// `None` exactly where `shortest_address` answers `None`.
+pub fn shortest_scaled_address(address: &Address, factor: u8) -> Option<AddressBytes>
+    requires { IsUnit factor }
+    ensures bytes { IfSome result (λ found.
+        found.bytes.items ≡ place_bytes 0 (shortest_in factor (At (plain address.now)))) }
+    ensures x { IfSome result (λ found. found.x ≡ x_of (At (plain address.now))) }
+    ensures b { IfSome result (λ found. found.b ≡ b_of (At (plain address.now))) }
+
+    // The bytes spell the address in these units, and no bytes that spell it so are fewer.
+    ensures spells { IfSome result (λ found. SpellsAddressIn factor found.bytes.items InMemory 0 found.x found.b
+        address.now) }
+    ensures least { IfSome result (λ found. (bytes : List ℕ) (reg : ℕ) (x b : Bool)
+        → SpellsAddressIn factor bytes InMemory reg x b address.now → length found.bytes.items ≤ length bytes) }
+
+    // None comes exactly where no bytes spell it, in these units or in others, and where the base or the index doesn't
+    // fit.
+    ensures none { (unit : ℕ) → IsUnit unit → (IsNone result ↔ ((bytes : List ℕ) (reg : ℕ) (x b : Bool)
+        → ¬ (SpellsAddressIn unit bytes InMemory reg x b address.now))) }
+    ensures cases { IsSome result ↔ (BaseFits address.now.base address.now.index × IndexFits false address.now.index) }
+
+    // There are 1 to 6 bytes, and a caller adds the field reg to the first of them.
+    ensures most { IfSome result (λ found. length found.bytes.items ≤ 6) }
+    ensures modrm { IfSome result (λ found. HasModRM found.bytes.items (shortest_in factor (At (plain address.now)))) }
+{
+    shortest_of_kind(false, factor, address)
 }
 
 /// The shortest bytes that spell an address with a vector register as its index, with the bits X and B that go with
@@ -278,5 +327,5 @@ pub fn shortest_vector_address(address: &Address) -> Option<AddressBytes>
     ensures most { IfSome result (λ found. length found.bytes.items ≤ 6) }
     ensures modrm { IfSome result (λ found. HasModRM found.bytes.items (shortest (At (plain address.now)))) }
 {
-    shortest_of_kind(true, address)
+    shortest_of_kind(true, 1, address)
 }

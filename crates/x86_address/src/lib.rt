@@ -33,7 +33,9 @@ mod example;
 pub mod laws;
 
 pub use decode::{read_address, read_byte, read_imm, read_modrm, read_vector_address};
-pub use encode::{AddressBytes, pack_fields, shortest_address, shortest_vector_address};
+pub use encode::{
+    AddressBytes, pack_fields, shortest_address, shortest_scaled_address, shortest_vector_address,
+};
 
 #[cfg(test)]
 mod tests;

@@ -1,11 +1,12 @@
 //! What no clause shows: addresses as the manual's tables have them, and the calls at concrete readers.
 
 ghost use Rattle.std.specs.Prelude.{◌↔◌, ◌≤◌, ◌<◌, ◌/◌, ◌%◌, IsErr};
+ghost use Rattle.x86_address.specs.Bytes.{IsUnit};
 ghost use Rattle.x86_address.specs.Reading.{take_place};
 
 use crate::{
     read_address, read_imm, read_modrm, read_vector_address, shortest_address,
-    shortest_vector_address,
+    shortest_scaled_address, shortest_vector_address,
 };
 use std::process::Abort;
 use x86_operand::{Address, DecodeError, Index, RegSpec, RegisterBank};
@@ -445,6 +446,83 @@ fn no_bytes_spell_a_vector_index_that_is_not_there_or_has_no_place(rt: HostRunti
     for address in addresses {
         assert_eq!(rt; shortest_vector_address(&address), None, "{address:?}");
     }
+}
+
+/// An address from `rax` with this displacement, and its shortest bytes where a byte counts in units of this factor.
+#[derive(Drop)]
+struct ScaledCase<'a> {
+    factor: u8,
+    disp: i32,
+    shortest: &'a [u8],
+}
+
+fn scaled<'a>(factor: u8, disp: i32, shortest: &'a [u8]) -> ScaledCase<'a> {
+    ScaledCase {
+        factor,
+        disp,
+        shortest,
+    }
+}
+
+fn is_written_in_units(rt: &impl Abort, case: &ScaledCase)
+    requires { IsUnit case.now.factor }
+{
+    let from_rax = address(general(0), None, case.disp);
+    let found = shortest_scaled_address(&from_rax, case.factor).expect(rt, "no bytes spell it");
+    assert_eq!(rt;
+        found.bytes.as_slice(),
+        case.shortest,
+        "{} in units of {}",
+        case.disp,
+        case.factor
+    );
+    assert_eq!(rt;
+        (found.x, found.b),
+        (false, false),
+        "{} in units of {}",
+        case.disp,
+        case.factor
+    );
+}
+
+#[test]
+fn a_displacement_of_one_byte_counts_in_units(rt: HostRuntime) {
+    // The ends of -128 to 127 units, one unit past each, and what is no multiple.
+    let cases = [
+        scaled(1, -128, &[0x40, 0x80]),
+        scaled(1, 128, &[0x80, 0x80, 0, 0, 0]),
+        scaled(16, 0, &[0x00]),
+        scaled(16, 16, &[0x40, 0x01]),
+        scaled(16, -16, &[0x40, 0xff]),
+        scaled(16, 8, &[0x80, 0x08, 0, 0, 0]),
+        scaled(16, 2032, &[0x40, 0x7f]),
+        scaled(16, 2048, &[0x80, 0, 0x08, 0, 0]),
+        scaled(16, -2048, &[0x40, 0x80]),
+        scaled(16, -2064, &[0x80, 0xf0, 0xf7, 0xff, 0xff]),
+        scaled(32, 4064, &[0x40, 0x7f]),
+        scaled(32, 4096, &[0x80, 0, 0x10, 0, 0]),
+        scaled(32, -4096, &[0x40, 0x80]),
+        scaled(32, -4128, &[0x80, 0xe0, 0xef, 0xff, 0xff]),
+        scaled(32, 48, &[0x80, 0x30, 0, 0, 0]),
+        scaled(64, 64, &[0x40, 0x01]),
+        scaled(64, 65, &[0x80, 0x41, 0, 0, 0]),
+        scaled(64, -1, &[0x80, 0xff, 0xff, 0xff, 0xff]),
+        scaled(64, 8128, &[0x40, 0x7f]),
+        scaled(64, 8192, &[0x80, 0, 0x20, 0, 0]),
+        scaled(64, -8192, &[0x40, 0x80]),
+        scaled(64, -8256, &[0x80, 0xc0, 0xdf, 0xff, 0xff]),
+        scaled(64, i32::MIN, &[0x80, 0, 0, 0, 0x80]),
+    ];
+    for case in &cases {
+        is_written_in_units(&rt, case);
+    }
+    // Base 13 with SIB and a displacement 0; what has no place has none in any units.
+    let found = shortest_scaled_address(&address(general(13), index(9, 8), 0), 64);
+    let found = found.expect(&rt, "no bytes spell it");
+    assert_eq!(rt; found.bytes.as_slice(), [0x44, 0xcd, 0].as_slice());
+    assert_eq!(rt; (found.x, found.b), (true, true));
+    let unspellable = address(instruction_pointer(), index(1, 1), 64);
+    assert_eq!(rt; shortest_scaled_address(&unspellable, 64), None);
 }
 
 #[test]

@@ -1,8 +1,9 @@
 -- Lemmas on byte strings and on bytes that are packed from fields (ModRM, SIB and the bytes of a doubleword), which no
 -- contract cites.
-use Rattle.std.proofs.Common.{◌≡◌, ℕ, ◌+◌, ◌*◌, ◌/◌, ◌%◌, ◌^◌, ◌<◌, ◌≤◌, List, [], ◌∷◌, ◌++◌, length, arith}
+use Rattle.std.proofs.Common.{◌≡◌, inl, inr, ℕ, ◌+◌, ◌*◌, ◌/◌, ◌%◌, ◌^◌, ◌<◌, ◌≤◌, List, [], ◌∷◌, ◌++◌, length}
+use Rattle.std.proofs.Common.{sym, subst, arith}
 use Rattle.x86_address.specs.Bytes.{IsBytes, doubleword_bytes, Displacement, Absent, Short, Long, IsDisplacement}
-use Rattle.x86_address.specs.Bytes.{displacement_bytes}
+use Rattle.x86_address.specs.Bytes.{displacement_bytes, IsUnit}
 
 -- ---- fields
 
@@ -87,3 +88,12 @@ pub displacement_length : (d : Displacement) → length (displacement_bytes d) �
 displacement_length Absent = omega arith
 displacement_length (Short n) = omega arith
 displacement_length (Long n) = omega arith
+
+-- ---- units
+
+-- what holds of each unit
+pub for_unit : (P : ℕ → Type 0) → P 1 → P 16 → P 32 → P 64 → {unit : ℕ} → IsUnit unit → P unit
+for_unit P one sixteen thirty_two sixty_four (inl e) = subst P (sym e) one
+for_unit P one sixteen thirty_two sixty_four (inr (inl e)) = subst P (sym e) sixteen
+for_unit P one sixteen thirty_two sixty_four (inr (inr (inl e))) = subst P (sym e) thirty_two
+for_unit P one sixteen thirty_two sixty_four (inr (inr (inr e))) = subst P (sym e) sixty_four
