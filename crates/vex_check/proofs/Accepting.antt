@@ -13,7 +13,7 @@ use Rattle.x86_permit.specs.Laws.{AllSettingsPermitAll}
 use Rattle.x86_permit.specs.LeastSettings.{least}
 use Rattle.x86_permit.specs.LeastSettings.Lemmas.{permits-least}
 use Rattle.x86_address.specs.Bytes.{IsBytes}
-use Rattle.vex_decode.specs.Laws.{AreWithin, ReadingIsSpelling, VexOpcodes}
+use Rattle.vex_decode.specs.Laws.{AreWithin, DecodeIsSpelling, VexOpcodes}
 use Rattle.vex_encode.specs.declared.sweeper.SweepEnd.{SweepEnd}
 use Rattle.vex_encode.specs.declared.sweeper.SweepEnd.TheVariants.{End, Stopped}
 use Rattle.vex_encode.specs.Sweep.{Swept, SweptItem, swept}
@@ -235,7 +235,7 @@ faultless swept h = by (find is_marked swept.items) refl swept.end refl h where
   by None e (Stopped place error) is h = cc
   by (Some item) e end is h = cc
 
-module _ (all : AllSettingsPermitAll) (read : ReadingIsSpelling) (are_vex : VexOpcodes) (bytes : List ℕ)
+module _ (all : AllSettingsPermitAll) (read : DecodeIsSpelling) (are_vex : VexOpcodes) (bytes : List ℕ)
     (is : IsBytes bytes) (none : fault (run bytes) ≡ None)
     (settings : List Bool) where
   ascend : Ascend 0 (run bytes).items
@@ -280,7 +280,7 @@ module _ (all : AllSettingsPermitAll) (read : ReadingIsSpelling) (are_vex : VexO
       lack = least-lack settings (run bytes).items ascend vex unmarked item e;
     }
 
-module _ (all : AllSettingsPermitAll) (read : ReadingIsSpelling) (are_vex : VexOpcodes) where
+module _ (all : AllSettingsPermitAll) (read : DecodeIsSpelling) (are_vex : VexOpcodes) where
   pub who_accepts : NeedsSayWhoAccepts
   who_accepts bytes is none settings = (
     ends-where all read are_vex bytes is none settings,

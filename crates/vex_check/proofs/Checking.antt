@@ -5,18 +5,14 @@ use Rattle.std.specs.Prelude.{cond, find, if◌then◌else◌}
 use Rattle.std.specs.Option.{option_or}
 use Rattle.std.proofs.lemmas.List.{append-nil, drop-drop, drop_all, length-append, length-drop}
 use Rattle.std.proofs.lemmas.List.Folds.{find-append}
-use Rattle.x86_opcode.specs.Vex.{is_vex}
 use Rattle.x86_operand.specs.declared.error.DecodeError.{DecodeError}
-use Rattle.x86_operand.specs.Meaning.{Decoded, Meaning}
+use Rattle.x86_operand.specs.Meaning.{Decoded}
 use Rattle.x86_settings.specs.Bits.{all_bits, is_set}
 use Rattle.x86_settings.specs.Sets.{exactly}
 use Rattle.x86_permit.specs.LeastSettings.{least}
-use Rattle.vex_rows.specs.Row.{opcode_of}
-use Rattle.vex_forms.specs.Gives.{gives}
-use Rattle.vex_decode.specs.Spelling.{Spells}
-use Rattle.vex_decode.specs.Laws.{VexOpcodes}
+use Rattle.vex_decode.specs.Decode.{decode}
 use Rattle.vex_encode.specs.declared.sweeper.SweepEnd.TheVariants.{End, Stopped}
-use Rattle.vex_encode.specs.Sweep.{Swept, SweptItem, first_of_bytes, item_at, onto, swept_by, swept_from}
+use Rattle.vex_encode.specs.Sweep.{Swept, SweptItem, item_at, onto, swept_by, swept_from}
 use Rattle.vex_encode.specs.Sweep.Lemmas.{from-step}
 use Rattle.vex_check.specs.declared.needs.RunCause.{RunCause}
 use Rattle.vex_check.specs.declared.needs.RunCause.TheVariants.{Marked}
@@ -27,13 +23,6 @@ use Rattle.vex_check.proofs.Noting.{first_places, firsts-there, needed-there, pl
 
 some-same : {a b : RunCause} → Some a ≡ Some b → a ≡ b
 some-same e = cc
-
--- what is spelled has a VEX opcode
-pub spelled-vex : VexOpcodes → (bytes : List ℕ) (m : Meaning) → Spells bytes m → is_vex m.opcode ≡ true
-unfolding gives
-spelled-vex vex bytes m spells =
-    ap (λ (n : Meaning). is_vex n.opcode) spells.by.means
-    ∙ (vex (opcode_of spells.row)).1 (spells.row, spells.is_row, refl)
 
 -- a decoded instruction that isn't unmarked is marked
 pub marked-unless : (first : Result Decoded DecodeError) (decoded : Decoded) → first ≡ Ok decoded
@@ -57,11 +46,11 @@ after-push items item swept = ap (λ (is : List SweptItem). record { items = is;
 -- the fault of a run that goes on after unmarked instructions with a fault
 stops-at : (items : List SweptItem) (place : ℕ) (rest : List ℕ) (cause : RunCause) → find is_marked items ≡ None
     → 0 < length rest
-    → cause_of (first_of_bytes all_bits rest) ≡ Some cause
+    → cause_of (decode all_bits rest) ≡ Some cause
     → fault (after items (swept_from all_bits 0 place rest)) ≡ Some (record { place = place; cause = cause })
 unfolding after swept_from
 stops-at items place [] cause unmarked some is = absurd (omega (arith, some))
-stops-at items place (b ∷ bs) cause unmarked some is = by (first_of_bytes all_bits (b ∷ bs)) is where
+stops-at items place (b ∷ bs) cause unmarked some is = by (decode all_bits (b ∷ bs)) is where
   go : Decoded → Swept
   go decoded = swept_from all_bits (decoded.len - 1) (place + 1) bs
 
@@ -111,7 +100,7 @@ module _ (bytes : List ℕ) where
   module _ (found : FirstPlaces) (place count : ℕ) (so_far : Checking bytes found place count) where
     -- a further instruction
     pub checking-step : (decoded : Decoded) (more : FirstPlaces)
-        → first_of_bytes all_bits (drop place bytes) ≡ Ok decoded
+        → decode all_bits (drop place bytes) ≡ Ok decoded
         → decoded.meaning.evex ≡ false → 1 ≤ decoded.len → decoded.len ≤ length (drop place bytes)
         → more ≡ noted (is_set (exactly (least decoded.meaning.opcode))) place decoded.meaning.opcode found
         → Checking bytes more (place + decoded.len) (count + 1)
@@ -139,7 +128,7 @@ module _ (bytes : List ℕ) where
 
     -- the fault there
     pub checking-fault : (cause : RunCause) → place < length bytes
-        → cause_of (first_of_bytes all_bits (drop place bytes)) ≡ Some cause
+        → cause_of (decode all_bits (drop place bytes)) ≡ Some cause
         → fault (run bytes) ≡ Some (record { place = place; cause = cause })
     checking-fault cause some is =
         ap fault so_far.same

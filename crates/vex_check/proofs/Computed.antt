@@ -23,9 +23,10 @@ use Rattle.vex_forms.specs.Gives.{gives}
 use Rattle.vex_forms.specs.Slots.{slots, index_bank, size_of, v_rule}
 use Rattle.vex_forms.specs.FormWalk.{walk_form}
 use Rattle.vex_decode.specs.Walk.{entry_of, walk}
+use Rattle.vex_decode.specs.Decode.{decode}
 use Rattle.vex_encode.specs.Canon.{canon}
 use Rattle.vex_encode.specs.Standard.{candidate, standard}
-use Rattle.vex_encode.specs.Sweep.{first_of_bytes, swept_from}
+use Rattle.vex_encode.specs.Sweep.{swept_from}
 use Rattle.vex_check.specs.Accepted.{covers}
 use Rattle.vex_check.specs.Needs.{all_needed, fault, firsts, run}
 use Rattle.vex_check.specs.declared.needs.RunCause.TheVariants.{Blocked}
@@ -35,7 +36,7 @@ two_bits : firsts (run (0xC5 ∷ 0xFA ∷ 0x10 ∷ 0x07 ∷ 0xC5 ∷ 0xFA ∷ 0x
     0x05 ∷ [])).items
     ≡ record { bit = avx; place = 0; opcode = Float VMOVSS } ∷ record { bit = bmi2; place = 8; opcode = Integer RORX } ∷
     []
-unfolding firsts all_needed least swept_from first_of_bytes walk walk_form entry_of has_key table steps form_row groups
+unfolding firsts all_needed least swept_from decode walk walk_form entry_of has_key table steps form_row groups
     has_groups mark_of opcode_of has_imm permits opcode_condition canon rows choices exists standard candidate shortest
     slots index_bank gathers size_of sizes v_rule gives same_meaning same_operands same_operand same_register same_bank
     same_index same_address same_opcode opcode_number
@@ -44,7 +45,7 @@ two_bits = refl
 -- and no other bit
 two_bits_in_all : all_needed (run (0xC5 ∷ 0xFA ∷ 0x10 ∷ 0x07 ∷ 0xC5 ∷ 0xFA ∷ 0x58 ∷ 0x06 ∷ 0xC4 ∷ 0xE3 ∷ 0x7B ∷ 0xF0 ∷
     0xC1 ∷ 0x05 ∷ [])).items ≡ exactly (avx ∷ bmi2 ∷ [])
-unfolding firsts all_needed least swept_from first_of_bytes walk walk_form entry_of has_key table steps form_row groups
+unfolding firsts all_needed least swept_from decode walk walk_form entry_of has_key table steps form_row groups
     has_groups mark_of opcode_of has_imm permits opcode_condition canon rows choices exists standard candidate shortest
     slots index_bank gathers size_of sizes v_rule gives same_meaning same_operands same_operand same_register same_bank
     same_index same_address same_opcode opcode_number
@@ -55,7 +56,7 @@ both_of_one : firsts (run (0xC4 ∷ 0xE2 ∷ 0x79 ∷ 0xDC ∷ 0xC1 ∷ 0xC4 ∷
     ≡ record { bit = aesni; place = 0; opcode = Integer VAESENC } ∷
     record { bit = avx; place = 0; opcode = Integer VAESENC }
     ∷ record { bit = f16c; place = 5; opcode = Float VCVTPH2PS } ∷ []
-unfolding firsts all_needed least swept_from first_of_bytes walk walk_form entry_of has_key table steps form_row groups
+unfolding firsts all_needed least swept_from decode walk walk_form entry_of has_key table steps form_row groups
     has_groups mark_of opcode_of has_imm permits opcode_condition canon rows choices exists standard candidate shortest
     slots index_bank gathers size_of sizes v_rule gives same_meaning same_operands same_operand same_register same_bank
     same_index same_address same_opcode opcode_number
@@ -63,7 +64,7 @@ both_of_one = refl
 
 -- nothing blocks them
 no_fault : fault (run (0xC4 ∷ 0xE2 ∷ 0x79 ∷ 0xDC ∷ 0xC1 ∷ 0xC4 ∷ 0xE2 ∷ 0x79 ∷ 0x13 ∷ 0xC1 ∷ [])) ≡ None
-unfolding firsts all_needed least swept_from first_of_bytes walk walk_form entry_of has_key table steps form_row groups
+unfolding firsts all_needed least swept_from decode walk walk_form entry_of has_key table steps form_row groups
     has_groups mark_of opcode_of has_imm permits opcode_condition canon rows choices exists standard candidate shortest
     slots index_bank gathers size_of sizes v_rule gives same_meaning same_operands same_operand same_register same_bank
     same_index same_address same_opcode opcode_number
@@ -71,7 +72,7 @@ no_fault = refl
 
 -- a byte that begins no instruction
 blocked_rest : fault (run (0xC5 ∷ 0xF8 ∷ 0x77 ∷ 0x33 ∷ [])) ≡ Some (record { place = 3; cause = Blocked Outside })
-unfolding firsts all_needed least swept_from first_of_bytes walk walk_form entry_of has_key table steps form_row groups
+unfolding firsts all_needed least swept_from decode walk walk_form entry_of has_key table steps form_row groups
     has_groups mark_of opcode_of has_imm permits opcode_condition canon rows choices exists standard candidate shortest
     slots index_bank gathers size_of sizes v_rule gives same_meaning same_operands same_operand same_register same_bank
     same_index same_address same_opcode opcode_number
@@ -80,7 +81,7 @@ blocked_rest = refl
 -- an instruction that is cut
 cut_rest : fault (run (0xC5 ∷ 0xF8 ∷ 0x77 ∷ 0xC5 ∷ 0xF8 ∷
     [])) ≡ Some (record { place = 3; cause = Blocked ExhaustedInput })
-unfolding firsts all_needed least swept_from first_of_bytes walk walk_form entry_of has_key table steps form_row groups
+unfolding firsts all_needed least swept_from decode walk walk_form entry_of has_key table steps form_row groups
     has_groups mark_of opcode_of has_imm permits opcode_condition canon rows choices exists standard candidate shortest
     slots index_bank gathers size_of sizes v_rule gives same_meaning same_operands same_operand same_register same_bank
     same_index same_address same_opcode opcode_number
@@ -88,7 +89,7 @@ cut_rest = refl
 
 -- no instruction needs no bit
 nothing_needed : firsts (run []).items ≡ []
-unfolding firsts all_needed least swept_from first_of_bytes walk walk_form entry_of has_key table steps form_row groups
+unfolding firsts all_needed least swept_from decode walk walk_form entry_of has_key table steps form_row groups
     has_groups mark_of opcode_of has_imm permits opcode_condition canon rows choices exists standard candidate shortest
     slots index_bank gathers size_of sizes v_rule gives same_meaning same_operands same_operand same_register same_bank
     same_index same_address same_opcode opcode_number

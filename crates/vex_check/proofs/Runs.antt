@@ -1,13 +1,12 @@
 -- A sweep under any settings, by the sweep under all: it is stopped at the first instruction that isn't permitted.
 use Rattle.std.proofs.Common.{◌≡◌, ℕ, zero, suc, ◌+◌, ◌-◌, Bool, true, false, not, List, [], ◌∷◌, Option}
-use Rattle.std.proofs.Common.{Some, None, Result, Ok, Err, refl, sym, ap, ◌∙◌, arith, le_refl}
+use Rattle.std.proofs.Common.{Some, None, Result, Ok, Err, take, refl, sym, ap, ◌∙◌, arith, le_refl}
 use Rattle.std.specs.Prelude.{All, cond, find, if◌then◌else◌}
 use Rattle.std.proofs.lemmas.List.Elements.{All-cons, All-nil}
-use Rattle.x86_opcode.specs.declared.Opcode.{Opcode}
 use Rattle.x86_opcode.specs.Vex.{is_vex}
 use Rattle.x86_operand.specs.declared.error.DecodeError.{DecodeError}
 use Rattle.x86_operand.specs.declared.error.DecodeError.TheVariants.{InvalidOpcode}
-use Rattle.x86_operand.specs.Meaning.{Decoded}
+use Rattle.x86_operand.specs.Meaning.{Decoded, Meaning}
 use Rattle.x86_settings.specs.Bits.{all_bits}
 use Rattle.x86_permit.specs.Permission.{permits}
 use Rattle.x86_permit.specs.Laws.{AllSettingsPermitAll}
@@ -16,14 +15,13 @@ use Rattle.x86_address.specs.Reading.{Reading}
 use Rattle.vex_rows.specs.Row.{Row, mark_of, opcode_of}
 use Rattle.vex_forms.specs.FormWalk.{taken}
 use Rattle.vex_forms.specs.Gives.{gives}
-use Rattle.vex_decode.specs.Spelling.{Syntax}
+use Rattle.vex_decode.specs.Spelling.{Syntax, Spells, meant}
 use Rattle.vex_decode.specs.Walk.{walk}
-use Rattle.vex_decode.specs.Blocked.{refused}
-use Rattle.vex_decode.specs.Laws.{ReadingIsSpelling, VexOpcodes}
+use Rattle.vex_decode.specs.Decode.{decoded_by, decode}
+use Rattle.vex_decode.specs.Laws.{DecodeIsSpelling, VexOpcodes}
 use Rattle.vex_encode.specs.declared.sweeper.SweepEnd.{SweepEnd}
 use Rattle.vex_encode.specs.declared.sweeper.SweepEnd.TheVariants.{Stopped}
-use Rattle.vex_encode.specs.Sweep.{Swept, SweptItem, decoded_by, decoded_unless, first_of_bytes, item_at}
-use Rattle.vex_encode.specs.Sweep.{swept_by, swept_from}
+use Rattle.vex_encode.specs.Sweep.{Swept, SweptItem, item_at, swept_by, swept_from}
 use Rattle.vex_check.proofs.Places.{Ascend, ascend-from}
 
 -- whether settings permit an instruction of a run
@@ -38,33 +36,18 @@ refuse settings (Ok decoded) = if permits settings decoded.meaning.evex decoded.
     InvalidOpcode
 refuse settings (Err error) = Err error
 
-first-walked : (settings : List Bool) (bytes : List ℕ) (r : Reading (Row × Syntax)) → walk bytes ≡ r
-    → first_of_bytes settings bytes ≡ refuse settings (decoded_by bytes r)
-unfolding first_of_bytes refuse gives
-first-walked settings bytes (Err error) is = ap (λ r. decoded_unless (refused settings bytes r) bytes) is
-first-walked settings bytes (Ok read) is =
-    ap (λ r. decoded_unless (refused settings bytes r) bytes) is
-    ∙ by (permits settings (mark_of read.0.0) (opcode_of read.0.0)) where
-      decoded : Result Decoded DecodeError
-      decoded = decoded_by bytes (Ok read)
-
-      by : (b : Bool) → decoded_unless (if b then None else Some (InvalidOpcode, taken bytes read.1)) bytes
-          ≡ (if b then decoded else Err InvalidOpcode)
-      by true = ap (decoded_by bytes) is
-      by false = refl
-
 -- under any settings, by what it is under all
 first-any : AllSettingsPermitAll → (settings : List Bool) (bytes : List ℕ)
-    → first_of_bytes settings bytes ≡ refuse settings (first_of_bytes all_bits bytes)
-unfolding refuse
-first-any all settings bytes =
-    first-walked settings bytes (walk bytes) refl
-    ∙ ap (refuse settings) (sym (first-walked all_bits bytes (walk bytes) refl
-    ∙ kept (decoded_by bytes (walk bytes)))) where
-      kept : (r : Result Decoded DecodeError) → refuse all_bits r ≡ r
-      kept (Ok decoded) = ap (λ b. if b then Ok decoded else Err InvalidOpcode)
-          (all decoded.meaning.evex decoded.meaning.opcode)
-      kept (Err error) = refl
+    → decode settings bytes ≡ refuse settings (decode all_bits bytes)
+unfolding decode refuse gives
+first-any all settings bytes = by (walk bytes) where
+  by : (reading : Reading (Row × Syntax))
+      → decoded_by settings bytes reading ≡ refuse settings (decoded_by all_bits bytes reading)
+  by (Err error) = refl
+  by (Ok read) =
+      ap (λ b. refuse settings
+      (if b then Ok (record { meaning = meant read.0.0 read.0.1; len = taken bytes read.1 }) else Err InvalidOpcode))
+      (sym (all (mark_of read.0.0) (opcode_of read.0.0)))
 
 -- ---- a whole run
 
@@ -85,7 +68,7 @@ end-cut all settings (suc k) place (b ∷ bs) = end-cut all settings k (place + 
 end-cut all settings zero place (b ∷ bs) =
     ap (λ first. (swept_by place (b ∷ bs) (λ decoded. swept_from settings (decoded.len - 1) (place + 1) bs) first).end)
     (first-any all settings (b ∷ bs))
-    ∙ by (first_of_bytes all_bits (b ∷ bs)) (λ decoded. end-cut all settings (decoded.len - 1) (place + 1) bs) where
+    ∙ by (decode all_bits (b ∷ bs)) (λ decoded. end-cut all settings (decoded.len - 1) (place + 1) bs) where
       go : List Bool → Decoded → Swept
       go s decoded = swept_from s (decoded.len - 1) (place + 1) bs
 
@@ -114,7 +97,7 @@ run-ascends settings (suc k) place (b ∷ bs) =
     ascend-from (place + 1) place (swept_from settings k (place + 1) bs).items (omega arith)
     (run-ascends settings k (place + 1) bs)
 run-ascends settings zero place (b ∷ bs) =
-    by (first_of_bytes settings (b ∷ bs)) (λ decoded. run-ascends settings (decoded.len - 1) (place + 1) bs) where
+    by (decode settings (b ∷ bs)) (λ decoded. run-ascends settings (decoded.len - 1) (place + 1) bs) where
       go : Decoded → Swept
       go decoded = swept_from settings (decoded.len - 1) (place + 1) bs
 
@@ -130,43 +113,32 @@ run-ascends settings zero place (b ∷ bs) =
 abbrev pub IsVex : SweptItem → Type 0
 IsVex item = is_vex item.decoded.meaning.opcode ≡ true
 
-opcode_or : Opcode → Result Decoded DecodeError → Opcode
-opcode_or other (Ok decoded) = decoded.meaning.opcode
-opcode_or other (Err error) = other
+-- what is spelled has a VEX opcode
+pub spelled-vex : VexOpcodes → (bytes : List ℕ) (m : Meaning) → Spells bytes m → is_vex m.opcode ≡ true
+unfolding gives
+spelled-vex vex bytes m spells =
+    ap (λ (n : Meaning). is_vex n.opcode) spells.by.means
+    ∙ (vex (opcode_of spells.row)).1 (spells.row, spells.is_row, refl)
 
 -- what a decode takes
-first-vex : ReadingIsSpelling → VexOpcodes → (settings : List Bool) (bytes : List ℕ) → IsBytes bytes
+first-vex : DecodeIsSpelling → VexOpcodes → (settings : List Bool) (bytes : List ℕ) → IsBytes bytes
     → (decoded : Decoded)
-    → first_of_bytes settings bytes ≡ Ok decoded → is_vex decoded.meaning.opcode ≡ true
-unfolding refuse gives opcode_or
-first-vex read vex settings bytes is decoded e =
-    by (walk bytes) refl (sym (first-walked settings bytes (walk bytes) refl) ∙ e) where
-      same : (r : Result Decoded DecodeError) (p : Bool) → is_vex (opcode_or decoded.meaning.opcode r) ≡ true
-          → (if p then r else Err InvalidOpcode) ≡ Ok decoded → is_vex decoded.meaning.opcode ≡ true
-      same r true some e = ap (λ r. is_vex (opcode_or decoded.meaning.opcode r)) (sym e) ∙ some
-      same r false some e = cc
+    → decode settings bytes ≡ Ok decoded → is_vex decoded.meaning.opcode ≡ true
+first-vex law vex settings bytes is decoded e =
+    spelled-vex vex (take decoded.len bytes) decoded.meaning ((law settings bytes decoded is).0 e).spells
 
-      by : (r : Reading (Row × Syntax)) → walk bytes ≡ r → refuse settings (decoded_by bytes r) ≡ Ok decoded
-          → is_vex decoded.meaning.opcode ≡ true
-      by (Err error) w e = cc
-      by (Ok read_as) w e =
-          let row = read_as.0.0 in
-          let begins = (read bytes row read_as.0.1 read_as.1 is).0 w in
-          let some : is_vex (opcode_of row) ≡ true = (vex (opcode_of row)).1 (row, begins.is_row, refl) in
-          same (decoded_by bytes (Ok read_as)) (permits settings (mark_of row) (opcode_of row)) some e
-
-pub run-vex : ReadingIsSpelling → VexOpcodes → (settings : List Bool) (k place : ℕ) (bytes : List ℕ) → IsBytes bytes
+pub run-vex : DecodeIsSpelling → VexOpcodes → (settings : List Bool) (k place : ℕ) (bytes : List ℕ) → IsBytes bytes
     → All IsVex (swept_from settings k place bytes).items
 unfolding swept_from
 run-vex read vex settings k place [] is = All-nil IsVex
 run-vex read vex settings (suc k) place (b ∷ bs) is = run-vex read vex settings k (place + 1) bs is.1
 run-vex read vex settings zero place (b ∷ bs) is =
-    by (first_of_bytes settings (b ∷ bs)) refl
+    by (decode settings (b ∷ bs)) refl
     (λ decoded. run-vex read vex settings (decoded.len - 1) (place + 1) bs is.1) where
       go : Decoded → Swept
       go decoded = swept_from settings (decoded.len - 1) (place + 1) bs
 
-      by : (first : Result Decoded DecodeError) → first_of_bytes settings (b ∷ bs) ≡ first
+      by : (first : Result Decoded DecodeError) → decode settings (b ∷ bs) ≡ first
           → ((decoded : Decoded) → All IsVex (go decoded).items)
           → All IsVex (swept_by place (b ∷ bs) go first).items
       by (Err error) e later = All-nil IsVex

@@ -4,7 +4,7 @@ ghost use Rattle.std.specs.Prelude.{◌≡◌, ◌≤◌, false, length, IsOk, I
 ghost use Rattle.x86_settings.specs.Bits.{all_bits};
 ghost use Rattle.x86_settings.specs.Sets.{exactly};
 ghost use Rattle.x86_permit.specs.LeastSettings.{least};
-ghost use Rattle.vex_encode.specs.Sweep.{first_of_bytes};
+ghost use Rattle.vex_decode.specs.Decode.{decode};
 ghost use Rattle.vex_check.specs.FirstPlaces.{cause_of};
 ghost use Rattle.vex_check.specs.Needs.{all_needed, fault, firsts, run};
 ghost use Rattle.vex_check.specs.Accepted.{EndsWhereCovered, StopsAtLeastLack};
@@ -13,23 +13,22 @@ use crate::first_places::FirstPlaces;
 use crate::laws::needs_say_who_accepts;
 use crate::needs::{Needs, RunCause, RunFault};
 use vex_decode::Decoder;
-use vex_decode::laws::{prefix_free, reading_is_spelling, vex_opcodes};
+use vex_decode::laws::{prefix_free, vex_opcodes};
 use x86_operand::Instruction;
 use x86_permit::least_settings;
 use x86_settings::InstDecoder;
 
 /// The instruction at the front of bytes and its least settings, or why it has none.
 fn first_needs(bytes: &[u8]) -> Result<(Instruction, InstDecoder), RunCause>
-    ensures first { IfOk result (λ found. first_of_bytes all_bits bytes.now ≡ Ok found.0) }
+    ensures first { IfOk result (λ found. decode all_bits bytes.now ≡ Ok found.0) }
     ensures unmarked { IfOk result (λ found. found.0.meaning.evex ≡ false) }
     ensures least { IfOk result (λ found. found.1 ≡ exactly (least found.0.meaning.opcode)) }
     ensures some { IfOk result (λ found. 1 ≤ found.0.len) }
     ensures within { IfOk result (λ found. found.0.len ≤ length bytes.now) }
-    ensures fault { IfErr result (λ cause. cause_of (first_of_bytes all_bits bytes.now) ≡ Some cause) }
+    ensures fault { IfErr result (λ cause. cause_of (decode all_bits bytes.now) ≡ Some cause) }
 {
-    // Laws: a spelling has bytes, is what a decode takes, and has a VEX opcode.
+    // Laws: a spelling has bytes, and has a VEX opcode.
     prefix_free();
-    reading_is_spelling();
     vex_opcodes();
     let instruction = match InstDecoder::default().decode_slice(bytes) {
         Ok(instruction) => instruction,

@@ -3,7 +3,7 @@
 
 ghost use Rattle.vex_check.specs.Accepted.{NeedsSayWhereOthersStop, NeedsSayWhoAccepts};
 
-use vex_decode::laws::{reading_is_spelling, vex_opcodes};
+use vex_decode::laws::{decode_answers, vex_opcodes};
 use x86_permit::laws::all_settings_permit_all;
 
 /// Where a run has no fault under all settings: under any settings its sweep ends after all bytes exactly where they
@@ -14,6 +14,6 @@ pub fn needs_say_who_accepts()
     ensures stops { NeedsSayWhereOthersStop }
 {
     all_settings_permit_all();
-    reading_is_spelling();
+    decode_answers();
     vex_opcodes();
 }

@@ -12,10 +12,11 @@ pub mod NotesTaken
 mod NotesComputed
 pub mod NoteIs
 pub mod Decoding
-pub mod Slices
 pub mod Rests
 pub mod Permitted
 pub mod SpellingLaws
+pub mod Answering
+pub mod Slices
 pub mod Computed
 pub mod Twice
 pub mod VexOpcodes

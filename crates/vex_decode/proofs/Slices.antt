@@ -1,4 +1,4 @@
--- A decode over a `U8Reader` that was made for a slice.
+-- A decode over a `U8Reader`.
 use Rattle.std.specs.Prelude.{◌≡◌, ◌↔◌, refl, ℕ, ◌≤◌, Bool, true, List, ◌++◌, length, take, Some, None, Result, Ok, Err}
 use Rattle.std.specs.Prelude.{IsOk, IfOk, IfErr}
 use Rattle.std.proofs.Common.{arith, ap, sym, ◌∙◌, subst, length-append}
@@ -6,13 +6,34 @@ use Rattle.std.proofs.Math.Seq.{take-append_seam}
 use Rattle.x86_operand.specs.declared.error.DecodeError.{DecodeError}
 use Rattle.x86_operand.specs.Meaning.{Decoded}
 use Rattle.x86_permit.specs.Permission.{permits}
-use Rattle.x86_reader.specs.Reader.{marked}
+use Rattle.std.specs.Io.KnownBytes.{prepend_known}
+use Rattle.x86_reader.specs.Reader.{ReaderState, marked}
 use Rattle.x86_reader.specs.SliceReader.{SliceReader, slice_state}
 use Rattle.vex_forms.specs.FormWalk.{taken}
 use Rattle.vex_decode.specs.Spelling.{Spells}
 use Rattle.vex_decode.specs.Blocked.{blocked}
-use Rattle.vex_decode.specs.Decoding.{TakesInstruction, BlocksSlice}
+use Rattle.vex_decode.specs.Decode.{decode}
+use Rattle.vex_decode.specs.Decoding.{TakesInstruction, BlocksSlice, AnswersDecode}
+use Rattle.vex_decode.proofs.Answering.{decode-spelling, decode-blocked}
 use Rattle.vex_decode.proofs.Spells.{begun-not_blocked}
+
+some_same : {xs ys : List ℕ} → Some xs ≡ Some ys → xs ≡ ys
+some_same e = cc
+
+-- the answer is that of a decode of the bytes that were left
+pub answers_decode : (settings : List Bool) {old new : ReaderState} (result : Result Decoded DecodeError)
+    → IfOk result (TakesInstruction settings old new) → IfErr result (BlocksSlice settings old new)
+    → AnswersDecode settings old new result
+answers_decode settings {old} {new} (Ok decoded) took blocks before after is_old is_new =
+    let bytes = took.bytes in
+    let split : before.left ≡ bytes ++ after.left =
+    some_same (sym (ap (λ (s : ReaderState). s.left) is_old) ∙ took.takes.passes.left
+    ∙ ap (λ (s : ReaderState). prepend_known bytes s.left) is_new) in
+    sym (ap (decode settings) split
+    ∙ decode-spelling settings bytes after.left decoded.meaning took.spells took.permitted
+    ∙ ap (λ (n : ℕ). Ok (record { meaning = decoded.meaning; len = n })) (sym took.len))
+answers_decode settings (Err error) took blocks before after is_old is_new =
+    sym (decode-blocked settings before.left error _ (blocks before after is_old is_new))
 
 -- what a decode of a slice answers
 pub record DecodesAs (settings : List Bool) (bytes : List ℕ) (decoded : Decoded) : Type 0 where
@@ -25,9 +46,6 @@ pub record DecodesAs (settings : List Bool) (bytes : List ℕ) (decoded : Decode
 abbrev pub DecodesSlice : List Bool → List ℕ → Result Decoded DecodeError → Type 0
 DecodesSlice settings bytes (Ok decoded) = DecodesAs settings bytes decoded
 DecodesSlice settings bytes (Err error) = (n : ℕ) × (blocked settings bytes ≡ Some (error, n))
-
-some_same : {xs ys : List ℕ} → Some xs ≡ Some ys → xs ≡ ys
-some_same e = cc
 
 module _ (settings : List Bool) (bytes : List ℕ) (before after : SliceReader) (is : before.left ≡ bytes) where
   decoded_as : (decoded : Decoded) → TakesInstruction settings (marked (slice_state before)) (slice_state after)

@@ -12,6 +12,7 @@ use Rattle.x86_address.specs.Follows.{Refused}
 use Rattle.vex_forms.specs.FormWalk.{taken}
 use Rattle.vex_decode.specs.Spelling.{Spells}
 use Rattle.vex_decode.specs.Blocked.{fails, blocked}
+use Rattle.vex_decode.specs.Decode.{decode}
 use Rattle.vex_decode.specs.Notes.{notes}
 
 -- the instruction after a refusal: no mark, the opcode `Invalid`, no operands, no size, length 0
@@ -50,6 +51,12 @@ abbrev pub BlocksSlice : List Bool → ReaderState → ReaderState → DecodeErr
 BlocksSlice settings old new error =
     (before after : SliceReader) → old ≡ slice_state before → new ≡ slice_state after
     → blocked settings before.left ≡ Some (error, taken before.left after.left)
+
+-- over a `U8Reader` the answer is that of a decode of the bytes that were left
+abbrev pub AnswersDecode : List Bool → ReaderState → ReaderState → Result Decoded DecodeError → Type 0
+AnswersDecode settings old new result =
+    (before after : SliceReader) → old ≡ slice_state before → new ≡ slice_state after
+    → result ≡ decode settings before.left
 
 -- the reader gave some bytes, and the sink was given the notes on them, of which there are at most 11
 pub record NotesTaken (old new : ReaderState) (sink_old sink_new : SinkState FieldDescription) : Type 0 where

@@ -1,6 +1,6 @@
 -- The laws of spellings.
 use Rattle.std.specs.Prelude.{◌≡◌, ◌≢◌, ◌↔◌, ℕ, ◌≤◌, Bool, true, false, List, ◌∷◌, ◌++◌, length, take, Some, None}
-use Rattle.std.specs.Prelude.{Result, Ok, IfErr, OnOk, OnErr, IsTrue}
+use Rattle.std.specs.Prelude.{Result, Ok, Err, IfErr, OnOk, OnErr, IsTrue}
 use Rattle.x86_opcode.specs.declared.Opcode.{Opcode}
 use Rattle.x86_opcode.specs.Vex.{is_vex}
 use Rattle.x86_operand.specs.declared.error.DecodeError.{DecodeError}
@@ -15,6 +15,7 @@ use Rattle.vex_rows.specs.Row.{Row, IsRow, opcode_of}
 use Rattle.vex_decode.specs.Spelling.{Syntax, IsSyntax, bytes_of, Spells}
 use Rattle.vex_decode.specs.Walk.{walk}
 use Rattle.vex_decode.specs.Blocked.{fails, blocked}
+use Rattle.vex_decode.specs.Decode.{decode}
 use Rattle.vex_decode.specs.Decoding.{TakesInstruction, TakesBlocked, BlocksSlice, no_instruction}
 
 -- of two spellings of which one begins the other, the one is the other
@@ -84,6 +85,26 @@ pub record Decodes (settings : List Bool) (bytes : List ℕ) (m : Meaning) (n : 
   pub not_blocked : blocked settings bytes ≡ None
   pub within : n ≤ length bytes
   pub spells : Spells (take n bytes) m
+
+-- where a spelling that the settings permit stands first, a decode answers its meaning and its length, whatever numbers
+-- follow
+abbrev pub DecodeOfSpelling : Type 0
+DecodeOfSpelling =
+    (settings : List Bool) (front rest : List ℕ) (m : Meaning) → Spells front m
+    → permits settings m.evex m.opcode ≡ true
+    → decode settings (front ++ rest) ≡ Ok (record { meaning = m; len = length front })
+
+-- a decode answers a meaning and a length exactly where no step fails and so many bytes spell the meaning
+abbrev pub DecodeIsSpelling : Type 0
+DecodeIsSpelling =
+    (settings : List Bool) (bytes : List ℕ) (decoded : Decoded) → IsBytes bytes
+    → decode settings bytes ≡ Ok decoded ↔ Decodes settings bytes decoded.meaning decoded.len
+
+-- a decode answers an error exactly where this one blocks the bytes
+abbrev pub DecodeIsBlocked : Type 0
+DecodeIsBlocked =
+    (settings : List Bool) (bytes : List ℕ) (error : DecodeError)
+    → decode settings bytes ≡ Err error ↔ ((n : ℕ) × (blocked settings bytes ≡ Some (error, n)))
 
 -- further bits never turn an answer into an error
 abbrev pub MoreSettings : Type 0

@@ -2,6 +2,7 @@ pub mod Fields
 pub mod Spelling
 pub mod Walk
 pub mod Blocked
+pub mod Decode
 pub mod Noting
 pub mod Notes
 pub mod NotedWalk

@@ -7,8 +7,9 @@ ghost use Rattle.x86_reader.specs.Reader.{marked};
 ghost use Rattle.vex_forms.specs.Operands.{made};
 ghost use Rattle.vex_decode.specs.Spelling.{Spells};
 ghost use Rattle.vex_decode.specs.Blocked.{blocked};
+ghost use Rattle.vex_decode.specs.Decode.{decode};
 ghost use Rattle.vex_decode.specs.Decoding.{TakesInstruction, TakesBlocked, CompletesDecode, BlocksSlice, NotesTaken};
-ghost use Rattle.vex_decode.specs.Decoding.{no_instruction};
+ghost use Rattle.vex_decode.specs.Decoding.{AnswersDecode, no_instruction};
 ghost use Rattle.vex_decode.specs.Outcome.{Decodes};
 
 use crate::reading::read_instruction;
@@ -44,6 +45,8 @@ pub trait Decoder {
     /// Decodes the instruction at the front of a slice, and answers it with the number of its bytes, 3 to 11. The
     /// errors are those above: `ExhaustedInput` comes exactly where a byte that a step reads isn't there.
     fn decode_slice(&self, bytes: &[u8]) -> Result<Instruction, DecodeError>
+        ensures answer { result ≡ decode (settings self.now) bytes.now }
+
         // Exactly where a permitted spelling begins the bytes.
         ensures begun { IsOk result ↔ (blocked (settings self.now) bytes.now ≡ None) }
         ensures within { IfOk result (λ decoded. decoded.len ≤ length bytes.now) }
@@ -64,7 +67,8 @@ pub trait Decoder {
             (TakesBlocked (settings self.now) (marked (R.state words.old)) (R.state words.new)) }
         ensures complete { CompletesDecode (settings self.now) (marked (R.state words.old)) (R.state words.new) result }
         ensures slice { IfErr result
-            (BlocksSlice (settings self.now) (marked (R.state words.old)) (R.state words.new)) };
+            (BlocksSlice (settings self.now) (marked (R.state words.old)) (R.state words.new)) }
+        ensures answer { AnswersDecode (settings self.now) (marked (R.state words.old)) (R.state words.new) result };
 
     /// Decodes as `decode` does, and writes what it would answer to an instruction, whatever that held. After an error
     /// the instruction is the default one.
@@ -80,7 +84,9 @@ pub trait Decoder {
         ensures fresh { OnErr result (instruction.new ≡ no_instruction) }
         ensures complete { CompletesDecode (settings self.now) (marked (R.state words.old)) (R.state words.new) result }
         ensures slice { IfErr result
-            (BlocksSlice (settings self.now) (marked (R.state words.old)) (R.state words.new)) };
+            (BlocksSlice (settings self.now) (marked (R.state words.old)) (R.state words.new)) }
+        ensures answer { AnswersDecode (settings self.now) (marked (R.state words.old)) (R.state words.new)
+            (made result instruction.new) };
 
     /// Decodes as `decode_into` does, and appends the notes on the bytes taken to the sink, also after an error. There
     /// are at most 11: a sink with room for so many keeps telling its list.
@@ -102,6 +108,8 @@ pub trait Decoder {
         ensures complete { CompletesDecode (settings self.now) (marked (R.state words.old)) (R.state words.new) result }
         ensures slice { IfErr result
             (BlocksSlice (settings self.now) (marked (R.state words.old)) (R.state words.new)) }
+        ensures answer { AnswersDecode (settings self.now) (marked (R.state words.old)) (R.state words.new)
+            (made result instruction.new) }
         ensures noted { NotesTaken (marked (R.state words.old)) (R.state words.new) (S.state sink.old)
             (S.state sink.new) }
         ensures kept { IsSome (S.state sink.old).told → 11 ≤ (S.state sink.old).room → IsSome (S.state sink.new).told };

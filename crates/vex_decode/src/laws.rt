@@ -3,7 +3,8 @@
 ghost use Rattle.vex_decode.specs.Laws.{PrefixFree, SpellingLength, SpellingBytes, OneMeaning, ReadingIsSpelling};
 ghost use Rattle.vex_decode.specs.Laws.{SpellingIsRead, BlockedOrBegun, MoreBytes, ExhaustedAtEnd, MoreSettings};
 ghost use Rattle.vex_decode.specs.Laws.{SameAnswer, FirstBytes, AtMostEleven, SettingsLast, OutsideExactly};
-ghost use Rattle.vex_decode.specs.Laws.{SettingsAlone, VexOpcodes, NotesChangeNothing};
+ghost use Rattle.vex_decode.specs.Laws.{SettingsAlone, VexOpcodes, NotesChangeNothing, DecodeOfSpelling};
+ghost use Rattle.vex_decode.specs.Laws.{DecodeIsSpelling, DecodeIsBlocked};
 
 /// If one spelling begins another they are equal, and every spelling is a string of 3 to 11 bytes.
 pub fn prefix_free()
@@ -34,6 +35,14 @@ pub fn blocked_or_begun()
     ensures begun { BlockedOrBegun }
     ensures more { MoreBytes }
     ensures exhausted { ExhaustedAtEnd }
+{}
+
+/// A decode answers the meaning and the length of the permitted spelling that begins the bytes, whatever follows it, or
+/// the error that blocks them, each exactly where there is such a spelling or error.
+pub fn decode_answers()
+    ensures first { DecodeOfSpelling }
+    ensures spelling { DecodeIsSpelling }
+    ensures error { DecodeIsBlocked }
 {}
 
 /// Where bytes are blocked after n of them, n is at most 11, and those n bytes alone are blocked by the same error,

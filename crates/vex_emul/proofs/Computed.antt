@@ -17,6 +17,7 @@ use Rattle.vex_forms.specs.Gives.{gives}
 use Rattle.vex_forms.specs.Slots.{slots, index_bank, size_of, v_rule}
 use Rattle.vex_forms.specs.FormWalk.{walk_form}
 use Rattle.vex_decode.specs.Walk.{entry_of, walk}
+use Rattle.vex_decode.specs.Decode.{decode}
 use Rattle.vex_emul.specs.Lanes.{lane_wise}
 use Rattle.vex_emul.specs.Machine.{State, base_part, general, index_part, place_of}
 use Rattle.vex_emul.specs.Operation.{result_of}
@@ -48,21 +49,21 @@ sums : vector_after (0xC5 ∷ 0xF1 ∷ 0xFC ∷ 0xC2 ∷ []) 0
     ≡ 0x30 ∷ 0x32 ∷ 0x34 ∷ 0x36 ∷ 0x38 ∷ 0x3A ∷ 0x3C ∷ 0x3E ∷ 0x40 ∷ 0x42 ∷ 0x44 ∷ 0x46 ∷ 0x48 ∷ 0x4A ∷ 0x4C ∷ 0x4E ∷
     0x00 ∷ 0x00 ∷ 0x00 ∷ 0x00 ∷ 0x00 ∷ 0x00 ∷ 0x00 ∷ 0x00 ∷ 0x00 ∷ 0x00 ∷ 0x00 ∷ 0x00 ∷ 0x00 ∷ 0x00 ∷ 0x00 ∷ 0x00 ∷ []
 unfolding ran_from step kind_of vector_in source_of combine_of move_of work_of place_of base_part index_part general
-    fetched stored combined moved lane_wise result_of walk walk_form entry_of has_key table steps form_row groups
+    fetched stored combined moved lane_wise result_of decode walk walk_form entry_of has_key table steps form_row groups
     has_groups mark_of opcode_of has_imm permits opcode_condition slots index_bank gathers size_of sizes v_rule gives
 sums = refl
 
 -- it was one instruction
 sums_ran : (run_of (0xC5 ∷ 0xF1 ∷ 0xFC ∷ 0xC2 ∷ [])).1 ≡ Ok 1
 unfolding ran_from step kind_of vector_in source_of combine_of move_of work_of place_of base_part index_part general
-    fetched stored combined moved lane_wise result_of walk walk_form entry_of has_key table steps form_row groups
+    fetched stored combined moved lane_wise result_of decode walk walk_form entry_of has_key table steps form_row groups
     has_groups mark_of opcode_of has_imm permits opcode_condition slots index_bank gathers size_of sizes v_rule gives
 sums_ran = refl
 
 -- VMOVDQU of y0 to the place in number 6, which is 192
 stores : chunk 192 32 (run_of (0xC5 ∷ 0xFE ∷ 0x7F ∷ 0x06 ∷ [])).0.memory ≡ counting 0 32
 unfolding ran_from step kind_of vector_in source_of combine_of move_of work_of place_of base_part index_part general
-    fetched stored combined moved lane_wise result_of walk walk_form entry_of has_key table steps form_row groups
+    fetched stored combined moved lane_wise result_of decode walk walk_form entry_of has_key table steps form_row groups
     has_groups mark_of opcode_of has_imm permits opcode_condition slots index_bank gathers size_of sizes v_rule gives
 stores = refl
 
@@ -71,7 +72,7 @@ loads : vector_after (0xC5 ∷ 0xFA ∷ 0x6F ∷ 0x85 ∷ 0x50 ∷ 0x03 ∷ 0x00
     ≡ 0xF0 ∷ 0xF1 ∷ 0xF2 ∷ 0xF3 ∷ 0xF4 ∷ 0xF5 ∷ 0xF6 ∷ 0xF7 ∷ 0xF8 ∷ 0xF9 ∷ 0xFA ∷ 0xFB ∷ 0xFC ∷ 0xFD ∷ 0xFE ∷ 0xFF ∷
     0x00 ∷ 0x00 ∷ 0x00 ∷ 0x00 ∷ 0x00 ∷ 0x00 ∷ 0x00 ∷ 0x00 ∷ 0x00 ∷ 0x00 ∷ 0x00 ∷ 0x00 ∷ 0x00 ∷ 0x00 ∷ 0x00 ∷ 0x00 ∷ []
 unfolding ran_from step kind_of vector_in source_of combine_of move_of work_of place_of base_part index_part general
-    fetched stored combined moved lane_wise result_of walk walk_form entry_of has_key table steps form_row groups
+    fetched stored combined moved lane_wise result_of decode walk walk_form entry_of has_key table steps form_row groups
     has_groups mark_of opcode_of has_imm permits opcode_condition slots index_bank gathers size_of sizes v_rule gives
 loads = refl
 
@@ -79,7 +80,7 @@ loads = refl
 past_the_end : run_of (0xC5 ∷ 0xFA ∷ 0x6F ∷ 0x85 ∷ 0x51 ∷ 0x03 ∷ 0x00 ∷ 0x00 ∷ [])
     ≡ (begun, Err (record { place = 0; count = 0; cause = BadAddress }))
 unfolding ran_from step kind_of vector_in source_of combine_of move_of work_of place_of base_part index_part general
-    fetched stored combined moved lane_wise result_of walk walk_form entry_of has_key table steps form_row groups
+    fetched stored combined moved lane_wise result_of decode walk walk_form entry_of has_key table steps form_row groups
     has_groups mark_of opcode_of has_imm permits opcode_condition slots index_bank gathers size_of sizes v_rule gives
 past_the_end = refl
 
@@ -87,7 +88,7 @@ past_the_end = refl
 not_of_the_subset : run_of (0xC5 ∷ 0xFA ∷ 0x58 ∷ 0xC1 ∷
     []) ≡ (begun, Err (record { place = 0; count = 0; cause = Unsupported }))
 unfolding ran_from step kind_of vector_in source_of combine_of move_of work_of place_of base_part index_part general
-    fetched stored combined moved lane_wise result_of walk walk_form entry_of has_key table steps form_row groups
+    fetched stored combined moved lane_wise result_of decode walk walk_form entry_of has_key table steps form_row groups
     has_groups mark_of opcode_of has_imm permits opcode_condition slots index_bank gathers size_of sizes v_rule gives
 not_of_the_subset = refl
 
@@ -95,7 +96,7 @@ not_of_the_subset = refl
 relative : (run_of (0xC5 ∷ 0xF1 ∷ 0xFC ∷ 0xC2 ∷ 0xC5 ∷ 0xFA ∷ 0x6F ∷ 0x05 ∷ 0x00 ∷ 0x00 ∷ 0x00 ∷ 0x00 ∷ [])).1
     ≡ Err (record { place = 4; count = 1; cause = Unsupported })
 unfolding ran_from step kind_of vector_in source_of combine_of move_of work_of place_of base_part index_part general
-    fetched stored combined moved lane_wise result_of walk walk_form entry_of has_key table steps form_row groups
+    fetched stored combined moved lane_wise result_of decode walk walk_form entry_of has_key table steps form_row groups
     has_groups mark_of opcode_of has_imm permits opcode_condition slots index_bank gathers size_of sizes v_rule gives
 relative = refl
 
@@ -103,14 +104,14 @@ relative = refl
 blocked_rest : (run_of (0xC5 ∷ 0xF1 ∷ 0xFC ∷ 0xC2 ∷ 0x33 ∷
     [])).1 ≡ Err (record { place = 4; count = 1; cause = Blocked Outside })
 unfolding ran_from step kind_of vector_in source_of combine_of move_of work_of place_of base_part index_part general
-    fetched stored combined moved lane_wise result_of walk walk_form entry_of has_key table steps form_row groups
+    fetched stored combined moved lane_wise result_of decode walk walk_form entry_of has_key table steps form_row groups
     has_groups mark_of opcode_of has_imm permits opcode_condition slots index_bank gathers size_of sizes v_rule gives
 blocked_rest = refl
 
 -- no bytes
 nothing : run_of [] ≡ (begun, Ok 0)
 unfolding ran_from step kind_of vector_in source_of combine_of move_of work_of place_of base_part index_part general
-    fetched stored combined moved lane_wise result_of walk walk_form entry_of has_key table steps form_row groups
+    fetched stored combined moved lane_wise result_of decode walk walk_form entry_of has_key table steps form_row groups
     has_groups mark_of opcode_of has_imm permits opcode_condition slots index_bank gathers size_of sizes v_rule gives
 nothing = refl
 
@@ -119,7 +120,7 @@ upper_zeros : vector_after (0xC5 ∷ 0xF8 ∷ 0x77 ∷ []) 1 ≡ 0x10 ∷ 0x11 �
     0x19 ∷ 0x1A ∷ 0x1B ∷ 0x1C ∷ 0x1D ∷ 0x1E ∷ 0x1F ∷ 0x00 ∷ 0x00 ∷ 0x00 ∷ 0x00 ∷ 0x00 ∷ 0x00 ∷ 0x00 ∷ 0x00 ∷ 0x00 ∷
     0x00 ∷ 0x00 ∷ 0x00 ∷ 0x00 ∷ 0x00 ∷ 0x00 ∷ 0x00 ∷ []
 unfolding ran_from step kind_of vector_in source_of combine_of move_of work_of place_of base_part index_part general
-    fetched stored combined moved lane_wise result_of walk walk_form entry_of has_key table steps form_row groups
+    fetched stored combined moved lane_wise result_of decode walk walk_form entry_of has_key table steps form_row groups
     has_groups mark_of opcode_of has_imm permits opcode_condition slots index_bank gathers size_of sizes v_rule gives
 upper_zeros = refl
 
@@ -128,6 +129,6 @@ all_zeros : vector_after (0xC5 ∷ 0xFC ∷ 0x77 ∷ []) 1 ≡ 0x00 ∷ 0x00 ∷
     0x00 ∷ 0x00 ∷ 0x00 ∷ 0x00 ∷ 0x00 ∷ 0x00 ∷ 0x00 ∷ 0x00 ∷ 0x00 ∷ 0x00 ∷ 0x00 ∷ 0x00 ∷ 0x00 ∷ 0x00 ∷ 0x00 ∷ 0x00 ∷
     0x00 ∷ 0x00 ∷ 0x00 ∷ 0x00 ∷ 0x00 ∷ 0x00 ∷ 0x00 ∷ []
 unfolding ran_from step kind_of vector_in source_of combine_of move_of work_of place_of base_part index_part general
-    fetched stored combined moved lane_wise result_of walk walk_form entry_of has_key table steps form_row groups
+    fetched stored combined moved lane_wise result_of decode walk walk_form entry_of has_key table steps form_row groups
     has_groups mark_of opcode_of has_imm permits opcode_condition slots index_bank gathers size_of sizes v_rule gives
 all_zeros = refl

@@ -10,7 +10,8 @@ use Rattle.x86_address.specs.Bytes.{IsBytes}
 use Rattle.x86_address.specs.Bytes.Lemmas.{IsBytes-append, IsBytes-back}
 use Rattle.vex_decode.specs.Spelling.{Spells}
 use Rattle.vex_decode.specs.Blocked.{blocked}
-use Rattle.vex_decode.specs.Laws.{SpellingIsRead, SpellingLength, BlockedOrBegun, BeginsPermitted}
+use Rattle.vex_decode.specs.Laws.{SpellingLength, BlockedOrBegun, BeginsPermitted}
+use Rattle.vex_emul.specs.Laws.{StepOfSpelling, StepOfError}
 use Rattle.vex_emul.specs.Machine.{State}
 use Rattle.vex_emul.specs.Subset.{work_of}
 use Rattle.vex_emul.specs.Work.{after}
@@ -19,7 +20,7 @@ use Rattle.vex_emul.specs.Run.{step, Stepped, step_by, step_into, ran, ran_from,
 use Rattle.vex_emul.specs.declared.run.Halt.{Halt}
 use Rattle.vex_emul.specs.Repeated.{behind, RunOfNothing, RunOfHalt, RunOfTwo, left_by}
 use Rattle.vex_emul.specs.Repeated.{MeaningDecides}
-use Rattle.vex_emul.proofs.Running.{step-blocked, step-spelled, from-step, from-halt}
+use Rattle.vex_emul.proofs.Running.{from-step, from-halt}
 
 -- ---- a run behind bytes and instructions is the run of the same bytes, moved
 
@@ -84,14 +85,14 @@ length_by state next k len (Some work) h = by (after state work) h
     by None h = cc
     by (Some s) h = sym (ap length_in h)
 
-module _ (law : SpellingIsRead) (begun : BlockedOrBegun) (settings : List Bool) (state next : State) (len : ℕ)
+module _ (law : StepOfSpelling) (halts : StepOfError) (begun : BlockedOrBegun) (settings : List Bool) (state next : State) (len : ℕ)
     (code : List ℕ) (are_bytes : IsBytes code) (is : step settings state code ≡ Ok (next, len)) where
   stepping_at : BeginsPermitted settings code → Stepping settings state next len code
   stepping_at at =
       let front = at.front in
       let rest = at.begins.0 in
       let done : step_by state (length front) (work_of state.q at.m) ≡ Ok (next, len) =
-      sym (step-spelled settings state front rest at.m at.spells law at.permitted)
+      sym (law settings state front rest at.m at.spells at.permitted)
       ∙ ap (step settings state) (sym at.begins.1) ∙ is in
       record {
         front = front;
@@ -110,14 +111,14 @@ module _ (law : SpellingIsRead) (begun : BlockedOrBegun) (settings : List Bool) 
       by : (o : Option (DecodeError × ℕ)) → blocked settings code ≡ o → Stepping settings state next len code
       by None e = stepping_at ((begun settings code are_bytes).0 e)
       by (Some error) e =
-          let halted = step-blocked settings state code error.0 error.1 e in cc
+          let halted = halts settings state code error.0 error.1 e in cc
 
-module _ (law : SpellingIsRead) (long : SpellingLength) (begun : BlockedOrBegun) (settings : List Bool) where
+module _ (law : StepOfSpelling) (halts : StepOfError) (long : SpellingLength) (begun : BlockedOrBegun) (settings : List Bool) where
   -- how much an instruction that runs takes
   step-some : (state next : State) (len : ℕ) (code : List ℕ) → IsBytes code
       → step settings state code ≡ Ok (next, len) → (1 ≤ len) × (len ≤ length code)
   step-some state next len code are_bytes is =
-      let at = stepping law begun settings state next len code are_bytes is in
+      let at = stepping law halts begun settings state next len code are_bytes is in
       let least = (long at.front at.m at.spells).0 in
       let all = ap length at.is ∙ length-append at.front at.rest in
       (omega (arith, least, at.whole), omega (arith, all, at.whole))
@@ -126,10 +127,10 @@ module _ (law : SpellingIsRead) (long : SpellingLength) (begun : BlockedOrBegun)
   step-more : (state next : State) (len : ℕ) (code more : List ℕ) → IsBytes code
       → step settings state code ≡ Ok (next, len) → step settings state (code ++ more) ≡ Ok (next, len)
   step-more state next len code more are_bytes is =
-      let at = stepping law begun settings state next len code are_bytes is in
+      let at = stepping law halts begun settings state next len code are_bytes is in
       ap (λ code. step settings state (code ++ more)) at.is
       ∙ ap (step settings state) (append_assoc at.front at.rest more)
-      ∙ step-spelled settings state at.front (at.rest ++ more) at.m at.spells law at.permitted
+      ∙ law settings state at.front (at.rest ++ more) at.m at.spells at.permitted
       ∙ at.done
 
   pub run_of_step : (state next : State) (len : ℕ) (code : List ℕ) → IsBytes code
@@ -192,7 +193,7 @@ ends_before p c s (Ok last) state n e =
 ends_before p c s (Err halt) state n e =
     let no = ap (λ (o : Outcome). o.1) e in cc
 
-module _ (law : SpellingIsRead) (long : SpellingLength) (begun : BlockedOrBegun) (settings : List Bool) where
+module _ (law : StepOfSpelling) (halts : StepOfError) (long : SpellingLength) (begun : BlockedOrBegun) (settings : List Bool) where
   -- the run of code that has at most so many bytes, with more behind it
   abbrev Continues : ℕ → Type 0
   Continues fuel = (start state : State) (n : ℕ) (code more : List ℕ) → length code ≤ fuel → IsBytes code
@@ -205,17 +206,17 @@ module _ (law : SpellingIsRead) (long : SpellingLength) (begun : BlockedOrBegun)
       → (next : State) (len : ℕ) → step settings start code ≡ Ok (next, len)
       → ran settings start (code ++ more) ≡ behind (length code) n (ran settings state more)
   run_on fuel fewer start state n code more within are_bytes more_bytes ends next len is =
-      let some = step-some law long begun settings start next len code are_bytes is in
+      let some = step-some law halts long begun settings start next len code are_bytes is in
       let rest = drop len code in
       let left = length-drop len code in
       let whole : len + length rest ≡ length code = omega (arith, some.1, left) in
       let went = ran settings next rest in
-      let first = run_of_step law long begun settings start next len code are_bytes is in
+      let first = run_of_step law halts long begun settings start next len code are_bytes is in
       let before = ends_before len 1 went.0 went.1 state n (sym first ∙ ends) in
       let far = ran settings state more in
-      let again = step-more law long begun settings start next len code more are_bytes is in
+      let again = step-more law halts long begun settings start next len code more are_bytes is in
       let both = IsBytes-append code more are_bytes more_bytes in
-      run_of_step law long begun settings start next len (code ++ more) both again
+      run_of_step law halts long begun settings start next len (code ++ more) both again
       ∙ ap (λ bytes. behind len 1 (ran settings next bytes)) (drop-append-le len code more some.1)
       ∙ ap (behind len 1) (fewer next state before.last rest more (omega (arith, some.0, left, within))
       (IsBytes-drop len code are_bytes) more_bytes before.is)
@@ -241,12 +242,12 @@ module _ (law : SpellingIsRead) (long : SpellingLength) (begun : BlockedOrBegun)
       by (Ok next) e fewer =
           run_on fuel fewer start state n (b ∷ bs) more within are_bytes more_bytes ends next.0 next.1 e
       by (Err cause) e fewer =
-          let halts = run_of_halt settings start cause (b ∷ bs) (λ e. cc) e in
-          let no = ap (λ (o : Outcome). o.1) (sym halts ∙ ends) in cc
+          let halted = run_of_halt settings start cause (b ∷ bs) (λ e. cc) e in
+          let no = ap (λ (o : Outcome). o.1) (sym halted ∙ ends) in cc
 
-pub run_of_two : SpellingIsRead → SpellingLength → BlockedOrBegun → RunOfTwo
-run_of_two law long begun settings start state n code more are_bytes more_bytes ends =
-    run_within law long begun settings (length code) start state n code more (omega arith) are_bytes more_bytes ends
+pub run_of_two : StepOfSpelling → StepOfError → SpellingLength → BlockedOrBegun → RunOfTwo
+run_of_two law halts long begun settings start state n code more are_bytes more_bytes ends =
+    run_within law halts long begun settings (length code) start state n code more (omega arith) are_bytes more_bytes ends
 
 -- ---- one meaning
 
@@ -258,8 +259,8 @@ left_alike state k l (Some work) = by (after state work)
     by None = refl
     by (Some s) = refl
 
-pub meaning_decides : SpellingIsRead → MeaningDecides
+pub meaning_decides : StepOfSpelling → MeaningDecides
 meaning_decides law settings state front other rest behind m one two permitted =
-    ap left_by (step-spelled settings state front rest m one law permitted)
+    ap left_by (law settings state front rest m one permitted)
     ∙ left_alike state (length front) (length other) (work_of state.q m)
-    ∙ ap left_by (sym (step-spelled settings state other behind m two law permitted))
+    ∙ ap left_by (sym (law settings state other behind m two permitted))

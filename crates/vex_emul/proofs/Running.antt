@@ -1,21 +1,13 @@
 -- A run, instruction by instruction.
-use Rattle.std.proofs.Common.{◌≡◌, sym, ◌∙◌, ap, ℕ, zero, suc, ◌+◌, ◌-◌, ◌<◌, ◌≤◌, Bool, List, [], ◌∷◌, ◌++◌}
-use Rattle.std.proofs.Common.{length, take, drop, Some, None, Ok, Err, arith, true, false, cond, add-zero}
-use Rattle.std.proofs.Common.{take-append-drop}
-use Rattle.std.specs.Prelude.{Option, map, replicate, nat_le}
+use Rattle.std.proofs.Common.{◌≡◌, sym, ◌∙◌, ap, ℕ, zero, suc, ◌+◌, ◌-◌, ◌<◌, ◌≤◌, Bool, List, [], ◌∷◌}
+use Rattle.std.proofs.Common.{length, drop, Some, None, Ok, Err, arith, true, false, cond, add-zero}
+use Rattle.std.specs.Prelude.{Option, Result, map, replicate, nat_le}
 use Rattle.std.specs.Simd.Lanes.{put_chunk}
 use Rattle.std.proofs.lemmas.Simd.{length-put_chunk}
-use Rattle.std.proofs.lemmas.List.{drop-drop, drop_all, length-append, length-drop, length-take-le}
+use Rattle.std.proofs.lemmas.List.{drop-drop, drop_all, length-drop}
 use Rattle.x86_operand.specs.declared.error.DecodeError.{DecodeError}
-use Rattle.x86_operand.specs.declared.error.DecodeError.TheVariants.{InvalidOpcode}
-use Rattle.x86_operand.specs.Meaning.{Meaning, Decoded}
-use Rattle.x86_permit.specs.Permission.{permits}
-use Rattle.vex_rows.specs.Row.{mark_of, opcode_of}
-use Rattle.vex_forms.specs.Gives.{gives}
-use Rattle.vex_forms.specs.FormWalk.{taken}
-use Rattle.vex_decode.specs.Spelling.{Spells, meant}
-use Rattle.vex_decode.specs.Blocked.{blocked, refused}
-use Rattle.vex_decode.specs.Laws.{SpellingIsRead}
+use Rattle.x86_operand.specs.Meaning.{Decoded}
+use Rattle.vex_decode.specs.Decode.{decode}
 use Rattle.vex_emul.specs.Machine.{State}
 use Rattle.vex_emul.specs.Subset.{work_of}
 use Rattle.vex_emul.specs.Operation.{result_of}
@@ -25,56 +17,16 @@ use Rattle.vex_emul.specs.declared.work.Location.{Location}
 use Rattle.vex_emul.specs.declared.work.Location.TheVariants.{Vector, Memory}
 use Rattle.vex_emul.specs.declared.work.Work.{Work}
 use Rattle.vex_emul.specs.declared.work.Work.TheVariants.{Combine, Move, ZeroUpper, ZeroAll}
-use Rattle.vex_emul.specs.Run.{step, step_unless, step_read, step_by, step_into, ran, ran_from, ran_by}
+use Rattle.vex_emul.specs.Run.{step, step_decoded, step_by, step_into, ran, ran_from, ran_by}
 use Rattle.vex_emul.specs.declared.run.HaltCause.{HaltCause}
-use Rattle.vex_emul.specs.declared.run.HaltCause.TheVariants.{Blocked, Unsupported, BadAddress}
+use Rattle.vex_emul.specs.declared.run.HaltCause.TheVariants.{Unsupported, BadAddress}
 
 -- ---- one instruction, by what a decode answers
 
-pub step-blocked : (settings : List Bool) (state : State) (bytes : List ℕ) (error : DecodeError) (n : ℕ)
-    → blocked settings bytes ≡ Some (error, n)
-    → step settings state bytes ≡ Err (Blocked error)
+pub step-decoded : (settings : List Bool) (state : State) (bytes : List ℕ) (first : Result Decoded DecodeError)
+    → first ≡ decode settings bytes → step settings state bytes ≡ step_decoded state first
 unfolding step
-step-blocked settings state bytes error n is = ap (step_unless state bytes) is
-
--- what a decode takes is the spelling that begins the bytes
-module _ (settings : List Bool) (state : State) (front rest : List ℕ) (m : Meaning) (spells : Spells front m)
-    (law : SpellingIsRead) where
-  step-begun : blocked settings (front ++ rest) ≡ None
-      → step settings state (front ++ rest) ≡ step_by state (length front) (work_of state.q m)
-  unfolding step
-  step-begun begun =
-      let row = spells.row in
-      let parts = spells.by.parts in
-      let left : taken (front ++ rest) rest ≡ length front = omega (arith, length-append front rest) in
-      ap (step_unless state (front ++ rest)) begun
-      ∙ ap (step_read state (front ++ rest)) (law front rest m spells)
-      ∙ ap (λ k. step_by state k (work_of state.q (meant row parts))) left
-      ∙ ap (λ (m : Meaning). step_by state (length front) (work_of state.q m)) (sym spells.by.means)
-
-  begun : permits settings m.evex m.opcode ≡ true → blocked settings (front ++ rest) ≡ None
-  unfolding gives
-  begun permitted =
-      let row = spells.row in
-      let same : permits settings m.evex m.opcode ≡ permits settings (mark_of row) (opcode_of row) =
-      ap (λ (m : Meaning). permits settings m.evex m.opcode) spells.by.means in
-      ap (refused settings (front ++ rest)) (law front rest m spells)
-      ∙ ap (λ b. cond b None (Some (InvalidOpcode, taken (front ++ rest) rest))) (sym same ∙ permitted)
-
-  pub step-spelled : permits settings m.evex m.opcode ≡ true
-      → step settings state (front ++ rest) ≡ step_by state (length front) (work_of state.q m)
-  step-spelled permitted = step-begun (begun permitted)
-
-pub step-decoded : (settings : List Bool) (state : State) (bytes : List ℕ) (decoded : Decoded) → SpellingIsRead
-    → blocked settings bytes ≡ None → decoded.len ≤ length bytes → Spells (take decoded.len bytes) decoded.meaning
-    → step settings state bytes ≡ step_by state decoded.len (work_of state.q decoded.meaning)
-step-decoded settings state bytes decoded law begun within spells =
-    let n = decoded.len in
-    let whole = take-append-drop n bytes in
-    ap (step settings state) (sym whole)
-    ∙ step-begun settings state (take n bytes) (drop n bytes) decoded.meaning spells law
-    (ap (blocked settings) whole ∙ begun)
-    ∙ ap (λ k. step_by state k (work_of state.q decoded.meaning)) (length-take-le n bytes within)
+step-decoded settings state bytes first is = ap (step_decoded state) (sym is)
 
 -- what follows from that, by what the instruction does
 module _ (settings : List Bool) (state : State) (bytes : List ℕ) (decoded : Decoded)

@@ -2,12 +2,8 @@
 use Rattle.std.specs.Prelude.{ℕ, zero, suc, Bool, List, [], ◌∷◌, ◌+◌, ◌-◌, Option, Some, None, Result, Ok, Err, codes}
 use Rattle.x86_operand.specs.declared.error.DecodeError.{DecodeError}
 use Rattle.x86_operand.specs.Errors.{decode_error_name}
-use Rattle.x86_address.specs.Reading.{Reading}
-use Rattle.vex_rows.specs.Row.{Row}
-use Rattle.vex_forms.specs.FormWalk.{taken}
-use Rattle.vex_decode.specs.Spelling.{Syntax, meant}
-use Rattle.vex_decode.specs.Walk.{walk}
-use Rattle.vex_decode.specs.Blocked.{blocked}
+use Rattle.x86_operand.specs.Meaning.{Decoded}
+use Rattle.vex_decode.specs.Decode.{decode}
 use Rattle.vex_emul.specs.Machine.{State}
 use Rattle.vex_emul.specs.Work.{after}
 use Rattle.vex_emul.specs.Subset.{work_of}
@@ -36,19 +32,14 @@ abbrev pub step_by : State → ℕ → Option Work → Stepped
 step_by state len None = Err Unsupported
 step_by state len (Some work) = step_into len (after state work)
 
--- the instruction that a decode takes out of bytes
-abbrev pub step_read : State → List ℕ → Reading (Row × Syntax) → Stepped
-step_read state bytes (Ok read) = step_by state (taken bytes read.1) (work_of state.q (meant read.0.0 read.0.1))
-step_read state bytes (Err error) = Err (Blocked error.0)
-
--- the first test: the bytes aren't blocked
-abbrev pub step_unless : State → List ℕ → Option (DecodeError × ℕ) → Stepped
-step_unless state bytes (Some error) = Err (Blocked error.0)
-step_unless state bytes None = step_read state bytes (walk bytes)
+-- the first test: a decode answers an instruction
+abbrev pub step_decoded : State → Result Decoded DecodeError → Stepped
+step_decoded state (Ok decoded) = step_by state decoded.len (work_of state.q decoded.meaning)
+step_decoded state (Err error) = Err (Blocked error)
 
 -- the instruction at the front of bytes that aren't empty
 unfoldable pub step : List Bool → State → List ℕ → Stepped
-step settings state bytes = step_unless state bytes (blocked settings bytes)
+step settings state bytes = step_decoded state (decode settings bytes)
 
 -- what a run leaves, and what it answers
 abbrev pub Outcome : Type 0

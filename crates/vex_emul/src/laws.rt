@@ -3,7 +3,7 @@
 ghost use Rattle.vex_emul.specs.Laws.{SubsetExactly, StepOfSpelling, StepOfError};
 ghost use Rattle.vex_emul.specs.Repeated.{RunOfNothing, RunOfStep, RunOfHalt, RunOfTwo, MeaningDecides};
 
-use vex_decode::laws::{blocked_or_begun, prefix_free, spelling_is_read};
+use vex_decode::laws::{blocked_or_begun, decode_answers, prefix_free};
 
 /// An instruction that bytes spell has something that it does, so that a run never answers `Unsupported` at it, exactly
 /// where it is unmarked, has one of the eighteen opcodes and no base rip.
@@ -17,7 +17,7 @@ pub fn steps()
     ensures spelling { StepOfSpelling }
     ensures error { StepOfError }
 {
-    spelling_is_read();
+    decode_answers();
 }
 
 /// A run is its instructions, one after another: over nothing it changes nothing, where the instruction at the front
@@ -29,8 +29,8 @@ pub fn runs()
     ensures halt { RunOfHalt }
     ensures two { RunOfTwo }
 {
+    steps();
     prefix_free();
-    spelling_is_read();
     blocked_or_begun();
 }
 
@@ -38,5 +38,5 @@ pub fn runs()
 pub fn meaning_decides()
     ensures { MeaningDecides }
 {
-    spelling_is_read();
+    steps();
 }

@@ -5,7 +5,7 @@ ghost use Rattle.vex_emul.specs.Run.{ran, step};
 
 use crate::machine::Machine;
 use vex_decode::Decoder;
-use vex_decode::laws::{prefix_free, spelling_is_read};
+use vex_decode::laws::prefix_free;
 use x86_operand::DecodeError;
 use x86_settings::InstDecoder;
 
@@ -57,9 +57,8 @@ pub fn step(machine: &mut Machine, decoder: &InstDecoder, bytes: &[u8]) -> Resul
     ensures unchanged { OnErr result (machine.new ≡ machine.old) }
     ensures room { length machine.new.memory ≡ length machine.old.memory }
 {
-    // Laws: a spelling has bytes, and is what a decode takes.
+    // A law: a spelling has bytes.
     prefix_free();
-    spelling_is_read();
     let instruction = match decoder.decode_slice(bytes) {
         Ok(instruction) => instruction,
         Err(error) => return Err(HaltCause::Blocked(error)),

@@ -1,6 +1,7 @@
 -- What a decode and the canonical bytes say together.
 use Rattle.std.specs.Prelude.{◌≡◌, refl, ◌↔◌, ◌≤◌, ℕ, length, Bool, true, List, take, Some, None, Result, Ok, Err, IsOk}
 use Rattle.std.specs.Prelude.{IfOk, IfErr}
+use Rattle.std.proofs.Common.{ap, sym}
 use Rattle.x86_operand.specs.declared.error.DecodeError.{DecodeError}
 use Rattle.x86_operand.specs.Meaning.{Meaning, Decoded}
 use Rattle.x86_permit.specs.Permission.{permits}
@@ -8,8 +9,22 @@ use Rattle.vex_decode.specs.Spelling.{Spells}
 use Rattle.vex_decode.specs.Blocked.{blocked}
 use Rattle.vex_encode.specs.Canon.{canon}
 use Rattle.vex_encode.specs.Laws.{CanonicalNotBlocked}
-use Rattle.vex_encode.specs.Recode.{RecodesAs, Recodes}
+use Rattle.vex_encode.specs.Recode.{RecodesAs, Recodes, with_canonical}
 use Rattle.vex_encode.proofs.Canon.{canon_spells, canon_least}
+
+-- what was decoded, by the answer of a recoding
+pub decoded_of : (first : Result Decoded DecodeError) (decoded : Decoded) (spelling : List ℕ)
+    → Ok (decoded, spelling) ≡ with_canonical first → first ≡ Ok decoded
+decoded_of (Ok other) decoded spelling e = ap (λ (x : Decoded × List ℕ). Ok x.0) (sym (ok_same e))
+  where
+    ok_same : {x y : Decoded × List ℕ} → ◌≡◌ {A = Result (Decoded × List ℕ) DecodeError} (Ok x) (Ok y) → x ≡ y
+    ok_same k = cc
+decoded_of (Err error) decoded spelling e = cc
+
+pub error_of : (first : Result Decoded DecodeError) (error : DecodeError) → Err error ≡ with_canonical first
+    → first ≡ Err error
+error_of (Ok other) error e = cc
+error_of (Err other) error e = cc
 
 -- the canonical bytes of a meaning that bytes spell are there
 pub canonical_there : (bytes : List ℕ) (m : Meaning) → Spells bytes m → canon m ≡ None → ⊥

@@ -11,8 +11,9 @@ use Rattle.x86_operand.specs.declared.error.DecodeError.{DecodeError}
 use Rattle.x86_operand.specs.Meaning.{Decoded}
 use Rattle.x86_address.specs.Bytes.{Begins}
 use Rattle.vex_decode.specs.Blocked.{blocked}
+use Rattle.vex_decode.specs.Decode.{decode}
 use Rattle.vex_encode.specs.declared.sweeper.SweepEnd.TheVariants.{End, Stopped}
-use Rattle.vex_encode.specs.Sweep.{AreInPlace, EndsAfter, IsPermitted, Swept, SweptItem, first_of_bytes, item_at}
+use Rattle.vex_encode.specs.Sweep.{AreInPlace, EndsAfter, IsPermitted, Swept, SweptItem, item_at}
 use Rattle.vex_encode.specs.Sweep.{joined, onto, swept, swept_from}
 use Rattle.vex_encode.specs.Sweep.Lemmas.{from-step, from-stop}
 
@@ -68,7 +69,7 @@ module _ (settings : List Bool) (bytes : List ℕ) where
     length-front = omega (arith, so_far.within, ap length so_far.front, length-take-le place bytes so_far.within)
 
     pub Sweeping-step : (item : SweptItem) (decoded : Decoded) → item ≡ item_at place (drop place bytes) decoded
-        → first_of_bytes settings (drop place bytes) ≡ Ok decoded → 1 ≤ decoded.len
+        → decode settings (drop place bytes) ≡ Ok decoded → 1 ≤ decoded.len
         → decoded.len ≤ length (drop place bytes)
         → IsPermitted settings item → Sweeping settings bytes (items ++ item ∷ []) (place + length item.bytes)
     Sweeping-step item decoded is first some fits permitted =
@@ -121,7 +122,7 @@ module _ (settings : List Bool) (bytes : List ℕ) where
         )
 
     pub Sweeping-stop : (error : DecodeError) → place < length bytes
-        → first_of_bytes settings (drop place bytes) ≡ Err error
+        → decode settings (drop place bytes) ≡ Err error
         → swept settings bytes ≡ record { items = items; end = Stopped place error }
     unfolding after
     Sweeping-stop error some first =

@@ -1,16 +1,13 @@
 -- What a sweep answers: one instruction after another, from the front of some bytes on.
 pub mod Lemmas
 use Rattle.std.specs.Prelude.{◌≡◌, ℕ, zero, suc, ◌+◌, ◌-◌, ◌<◌, Bool, true, List, [], ◌∷◌, length, take}
-use Rattle.std.specs.Prelude.{drop, flat_map, Option, Some, None, Result, Ok, Err, unwrap_or}
+use Rattle.std.specs.Prelude.{drop, flat_map, Some, Result, Ok, Err, unwrap_or}
 use Rattle.x86_operand.specs.declared.error.DecodeError.{DecodeError}
 use Rattle.x86_operand.specs.Meaning.{Decoded}
 use Rattle.x86_permit.specs.Permission.{permits}
-use Rattle.x86_address.specs.Reading.{Reading}
-use Rattle.vex_rows.specs.Row.{Row}
-use Rattle.vex_forms.specs.FormWalk.{taken}
-use Rattle.vex_decode.specs.Spelling.{Syntax, Spells, meant}
-use Rattle.vex_decode.specs.Walk.{walk}
+use Rattle.vex_decode.specs.Spelling.{Spells}
 use Rattle.vex_decode.specs.Blocked.{blocked}
+use Rattle.vex_decode.specs.Decode.{decode}
 use Rattle.vex_encode.specs.Canon.{canon}
 use Rattle.vex_encode.specs.declared.sweeper.SweepEnd.{SweepEnd}
 use Rattle.vex_encode.specs.declared.sweeper.SweepEnd.TheVariants.{End, Stopped}
@@ -42,20 +39,6 @@ item_seen item = record {
 abbrev pub joined : List SweptItem → List ℕ
 joined items = flat_map (λ item. item.bytes) items
 
--- the meaning and the length that a decode takes out of bytes
-abbrev pub decoded_by : List ℕ → Reading (Row × Syntax) → Result Decoded DecodeError
-decoded_by bytes (Ok read) = Ok (record { meaning = meant read.0.0 read.0.1; len = taken bytes read.1 })
-decoded_by bytes (Err error) = Err error.0
-
--- the same, unless an error blocks the bytes
-abbrev pub decoded_unless : Option (DecodeError × ℕ) → List ℕ → Result Decoded DecodeError
-decoded_unless None bytes = decoded_by bytes (walk bytes)
-decoded_unless (Some error) bytes = Err error.0
-
--- the meaning and the length of the spelling that begins some bytes, or the error that blocks them
-unfoldable pub first_of_bytes : List Bool → List ℕ → Result Decoded DecodeError
-first_of_bytes settings bytes = decoded_unless (blocked settings bytes) bytes
-
 -- the item at a place, where these bytes begin with the spelling of a meaning
 abbrev pub item_at : ℕ → List ℕ → Decoded → SweptItem
 item_at place bytes decoded = record {
@@ -80,7 +63,7 @@ swept_from settings k place [] = record { items = []; end = End }
 swept_from settings (suc k) place (b ∷ bs) = swept_from settings k (place + 1) bs
 swept_from settings zero place (b ∷ bs) =
     swept_by place (b ∷ bs) (λ decoded. swept_from settings (decoded.len - 1) (place + 1) bs)
-    (first_of_bytes settings (b ∷ bs))
+    (decode settings (b ∷ bs))
 
 -- the sweep of some bytes
 abbrev pub swept : List Bool → List ℕ → Swept

@@ -5,7 +5,7 @@ ghost use Rattle.x86_permit.specs.Permission.{permits};
 ghost use Rattle.vex_decode.specs.Spelling.{Spells};
 ghost use Rattle.vex_decode.specs.Blocked.{blocked};
 ghost use Rattle.vex_encode.specs.Canon.{canon};
-ghost use Rattle.vex_encode.specs.Recode.{Recodes};
+ghost use Rattle.vex_encode.specs.Recode.{Recodes, recoded};
 
 use crate::encode::canonical;
 use crate::laws::recode_again;
@@ -29,7 +29,8 @@ fn canonical_bytes<L: Ledger>(instruction: &Instruction, blank: Blank) -> Option
 
 /// The instruction and its canonical bytes, with all that is known of them at once.
 fn recode_all(decoder: &InstDecoder, bytes: &[u8]) -> Result<(Instruction, Spelling), DecodeError>
-    ensures { Recodes decoder.now bytes.now result }
+    ensures all { Recodes decoder.now bytes.now result }
+    ensures answer { result ≡ recoded decoder.now bytes.now }
 {
     // A law: canonical bytes of a permitted opcode are not blocked.
     recode_again();
@@ -47,6 +48,9 @@ fn recode_all(decoder: &InstDecoder, bytes: &[u8]) -> Result<(Instruction, Spell
 /// `ExhaustedInput` where a byte that is read isn't there, `InvalidOpcode` where the map number or the look-up or a
 /// group refuses, or the settings do, and `InvalidOperand` where vvvv, L or the kind of operand does.
 pub fn recode(decoder: &InstDecoder, bytes: &[u8]) -> Result<(Instruction, Spelling), DecodeError>
+    // What a decode answers, and its canonical bytes.
+    ensures answer { result ≡ recoded decoder.now bytes.now }
+
     // Exactly where a permitted spelling begins the bytes.
     ensures begun { IsOk result ↔ (blocked decoder.now bytes.now ≡ None) }
     ensures within { IfOk result (λ recoded. recoded.0.len ≤ length bytes.now) }

@@ -5,7 +5,8 @@ ghost use Rattle.std.specs.Prelude.{Err};
 ghost use Rattle.std.specs.Option.{option_copied};
 ghost use Rattle.x86_address.specs.Bytes.{Begins};
 ghost use Rattle.vex_decode.specs.Blocked.{blocked};
-ghost use Rattle.vex_encode.specs.Sweep.{swept, joined, item_seen, IsPermitted, AreInPlace, EndsAfter, first_of_bytes};
+ghost use Rattle.vex_decode.specs.Decode.{decode};
+ghost use Rattle.vex_encode.specs.Sweep.{swept, joined, item_seen, IsPermitted, AreInPlace, EndsAfter};
 ghost use Rattle.vex_encode.specs.Sweep.{item_at};
 
 use crate::recoder::recode;
@@ -13,7 +14,7 @@ use crate::spelling::Spelling;
 use std::alloc::Global;
 use std::marker::Model;
 use thiserror::Error;
-use vex_decode::laws::{prefix_free, reading_is_spelling};
+use vex_decode::laws::prefix_free;
 use x86_operand::{DecodeError, Instruction};
 use x86_settings::InstDecoder;
 
@@ -102,17 +103,16 @@ fn item_at<'a>(
     place: usize,
     bytes: &'a [u8],
 ) -> Result<SweepItem<'a>, DecodeError>
-    ensures first { IfOk result (λ item. first_of_bytes decoder.now bytes.now ≡ Ok item.instruction) }
+    ensures first { IfOk result (λ item. decode decoder.now bytes.now ≡ Ok item.instruction) }
     ensures is { IfOk result (λ item. item_seen item ≡ item_at place bytes.now item.instruction) }
     ensures permitted { IfOk result (λ item. IsPermitted decoder.now (item_seen item)) }
     ensures some { IfOk result (λ item. 1 ≤ item.instruction.len) }
     ensures within { IfOk result (λ item. item.instruction.len ≤ length bytes.now) }
-    ensures refused { IfErr result (λ error. first_of_bytes decoder.now bytes.now ≡ Err error) }
+    ensures refused { IfErr result (λ error. decode decoder.now bytes.now ≡ Err error) }
     ensures blocked { IfErr result (λ error. (n : ℕ) × (blocked decoder.now bytes.now ≡ Some (error, n))) }
 {
-    // Laws: a spelling has bytes, and is what a decode takes.
+    // A law: a spelling has bytes.
     prefix_free();
-    reading_is_spelling();
     let (instruction, spelling) = recode(decoder, bytes)?;
     let len = usize::from(instruction.len());
     Ok(SweepItem {

@@ -24,7 +24,7 @@ use Rattle.vex_forms.specs.Slots.{slots, index_bank, size_of, v_rule}
 use Rattle.vex_forms.specs.FormWalk.{walk_form}
 use Rattle.vex_decode.specs.Spelling.{Syntax, bytes_of, meant}
 use Rattle.vex_decode.specs.Walk.{entry_of, walk}
-use Rattle.vex_encode.specs.Sweep.{first_of_bytes}
+use Rattle.vex_decode.specs.Decode.{decode}
 use Rattle.vex_list.specs.Choices.{made}
 use Rattle.vex_list.specs.Order.{is_before}
 use Rattle.vex_list.specs.declared.choices.AddressForm.TheVariants.{WithoutSib}
@@ -92,8 +92,8 @@ reads_all m b (Err error) = false
 abbrev zeroes : Meaning
 zeroes = record { evex = false; opcode = Integer VZEROUPPER; operands = []; size = None }
 
-spelled : list_all (λ b. reads_all zeroes b (first_of_bytes all_bits b)) all ≡ true
-unfolding first_of_bytes walk walk_form entry_of has_key table steps form_row groups has_groups mark_of opcode_of
+spelled : list_all (λ b. reads_all zeroes b (decode all_bits b)) all ≡ true
+unfolding decode walk walk_form entry_of has_key table steps form_row groups has_groups mark_of opcode_of
     has_imm permits opcode_condition slots index_bank gathers size_of sizes v_rule gives same_meaning same_operands
     same_operand same_register same_bank same_index same_address same_opcode opcode_number
 spelled = refl

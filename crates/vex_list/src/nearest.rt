@@ -6,7 +6,7 @@ ghost use Rattle.vex_list.specs.Order.{AtMost, Before};
 ghost use Rattle.vex_list.specs.Next.{Covers};
 
 use vex_decode::Decoder;
-use vex_decode::laws::{blocked_or_begun, one_meaning, prefix_free};
+use vex_decode::laws::decode_answers;
 use vex_encode::Spelling;
 use x86_operand::Instruction;
 use x86_permit::laws::all_settings_permit_all;
@@ -25,10 +25,8 @@ pub struct Wanted<'a> {
 fn spells(bytes: &[u8], instruction: &Instruction) -> bool
     ensures { IsTrue result ↔ Spells bytes.now instruction.now.meaning }
 {
-    // Laws: of spellings, and that these settings refuse none.
-    blocked_or_begun();
-    one_meaning();
-    prefix_free();
+    // Laws: a decode answers a permitted spelling, and these settings permit every opcode.
+    decode_answers();
     all_settings_permit_all();
     match InstDecoder::default().decode_slice(bytes) {
         Ok(decoded) => {

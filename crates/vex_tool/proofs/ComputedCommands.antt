@@ -22,9 +22,10 @@ use Rattle.vex_forms.specs.Gives.{gives}
 use Rattle.vex_forms.specs.Slots.{slots, index_bank, size_of, v_rule}
 use Rattle.vex_forms.specs.FormWalk.{walk_form}
 use Rattle.vex_decode.specs.Walk.{entry_of, walk}
+use Rattle.vex_decode.specs.Decode.{decode}
 use Rattle.vex_encode.specs.Canon.{canon}
 use Rattle.vex_encode.specs.Standard.{candidate, standard}
-use Rattle.vex_encode.specs.Sweep.{first_of_bytes, swept_from}
+use Rattle.vex_encode.specs.Sweep.{swept_from}
 use Rattle.vex_check.specs.Accepted.{covers}
 use Rattle.vex_check.specs.Needs.{all_needed, firsts}
 use Rattle.vex_emul.specs.Lanes.{lane_wise}
@@ -44,7 +45,7 @@ adds : emulate_lines all_bits (0xC5 ∷ 0xF1 ∷ 0xFC ∷ 0xC2 ∷ [])
     ≡ codes "y0 30323436383a3c3e40424446484a4c4e00000000000000000000000000000000\nend 1\n"
 unfolding emulate_lines start counting numbers vector_lines block_lines changed_line digits encode_with ran_from step
     kind_of vector_in source_of combine_of move_of work_of place_of base_part index_part general fetched stored combined
-    moved lane_wise result_of walk walk_form entry_of has_key table steps form_row groups has_groups mark_of opcode_of
+    moved lane_wise result_of decode walk walk_form entry_of has_key table steps form_row groups has_groups mark_of opcode_of
     has_imm permits opcode_condition slots index_bank gathers size_of sizes v_rule gives
 adds = refl
 
@@ -52,7 +53,7 @@ stores : emulate_lines all_bits (0xC5 ∷ 0xFE ∷ 0x7F ∷ 0x06 ∷ [])
     ≡ codes "m192 000102030405060708090a0b0c0d0e0f101112131415161718191a1b1c1d1e1f\nend 1\n"
 unfolding emulate_lines start counting numbers vector_lines block_lines changed_line digits encode_with ran_from step
     kind_of vector_in source_of combine_of move_of work_of place_of base_part index_part general fetched stored combined
-    moved lane_wise result_of walk walk_form entry_of has_key table steps form_row groups has_groups mark_of opcode_of
+    moved lane_wise result_of decode walk walk_form entry_of has_key table steps form_row groups has_groups mark_of opcode_of
     has_imm permits opcode_condition slots index_bank gathers size_of sizes v_rule gives
 stores = refl
 
@@ -60,7 +61,7 @@ loads : emulate_lines all_bits (0xC5 ∷ 0xFA ∷ 0x6F ∷ 0x85 ∷ 0x50 ∷ 0x0
     ≡ codes "y0 f0f1f2f3f4f5f6f7f8f9fafbfcfdfeff00000000000000000000000000000000\nend 1\n"
 unfolding emulate_lines start counting numbers vector_lines block_lines changed_line digits encode_with ran_from step
     kind_of vector_in source_of combine_of move_of work_of place_of base_part index_part general fetched stored combined
-    moved lane_wise result_of walk walk_form entry_of has_key table steps form_row groups has_groups mark_of opcode_of
+    moved lane_wise result_of decode walk walk_form entry_of has_key table steps form_row groups has_groups mark_of opcode_of
     has_imm permits opcode_condition slots index_bank gathers size_of sizes v_rule gives
 loads = refl
 
@@ -68,7 +69,7 @@ past_the_end : emulate_lines all_bits (0xC5 ∷ 0xFA ∷ 0x6F ∷ 0x85 ∷ 0x51 
     ≡ codes "stopped 0 BadAddress\n"
 unfolding emulate_lines start counting numbers vector_lines block_lines changed_line digits encode_with ran_from step
     kind_of vector_in source_of combine_of move_of work_of place_of base_part index_part general fetched stored combined
-    moved lane_wise result_of walk walk_form entry_of has_key table steps form_row groups has_groups mark_of opcode_of
+    moved lane_wise result_of decode walk walk_form entry_of has_key table steps form_row groups has_groups mark_of opcode_of
     has_imm permits opcode_condition slots index_bank gathers size_of sizes v_rule gives
 past_the_end = refl
 
@@ -76,7 +77,7 @@ not_of_the_subset : emulate_lines all_bits (0xC5 ∷ 0xFA ∷ 0x58 ∷ 0xC1 ∷ 
     ≡ codes "stopped 0 Unsupported\n"
 unfolding emulate_lines start counting numbers vector_lines block_lines changed_line digits encode_with ran_from step
     kind_of vector_in source_of combine_of move_of work_of place_of base_part index_part general fetched stored combined
-    moved lane_wise result_of walk walk_form entry_of has_key table steps form_row groups has_groups mark_of opcode_of
+    moved lane_wise result_of decode walk walk_form entry_of has_key table steps form_row groups has_groups mark_of opcode_of
     has_imm permits opcode_condition slots index_bank gathers size_of sizes v_rule gives
 not_of_the_subset = refl
 
@@ -85,7 +86,7 @@ no_code : emulate_lines all_bits ([])
     ≡ codes "end 0\n"
 unfolding emulate_lines start counting numbers vector_lines block_lines changed_line digits encode_with ran_from step
     kind_of vector_in source_of combine_of move_of work_of place_of base_part index_part general fetched stored combined
-    moved lane_wise result_of walk walk_form entry_of has_key table steps form_row groups has_groups mark_of opcode_of
+    moved lane_wise result_of decode walk walk_form entry_of has_key table steps form_row groups has_groups mark_of opcode_of
     has_imm permits opcode_condition slots index_bank gathers size_of sizes v_rule gives
 no_code = refl
 
@@ -94,7 +95,7 @@ unpermitted : emulate_lines no_bits (0xC5 ∷ 0xF1 ∷ 0xFC ∷ 0xC2 ∷ [])
     ≡ codes "stopped 0 InvalidOpcode\n"
 unfolding emulate_lines start counting numbers vector_lines block_lines changed_line digits encode_with ran_from step
     kind_of vector_in source_of combine_of move_of work_of place_of base_part index_part general fetched stored combined
-    moved lane_wise result_of walk walk_form entry_of has_key table steps form_row groups has_groups mark_of opcode_of
+    moved lane_wise result_of decode walk walk_form entry_of has_key table steps form_row groups has_groups mark_of opcode_of
     has_imm permits opcode_condition slots index_bank gathers size_of sizes v_rule gives
 unpermitted = refl
 
@@ -104,7 +105,7 @@ two_bits : least_lines (0xC5 ∷ 0xFA ∷ 0x10 ∷ 0x07 ∷ 0xC5 ∷ 0xFA ∷ 0x
     0x05 ∷ [])
     ≡ codes "need avx 0 VMOVSS\nneed bmi2 8 RORX\n"
     ++ codes "profiles excavator zen zen2 zen3 zen4 zen5 haswell haswell_ex broadwell skylake kabylake\n"
-unfolding least_lines profiles_line firsts all_needed covers least swept_from first_of_bytes digits opcode_name profiles
+unfolding least_lines profiles_line firsts all_needed covers least swept_from decode digits opcode_name profiles
     profile_of microarchitectures walk walk_form entry_of has_key table steps form_row groups has_groups mark_of
     opcode_of has_imm permits opcode_condition slots index_bank gathers size_of sizes v_rule gives
 two_bits = refl
@@ -113,14 +114,14 @@ both_of_one : least_lines (0xC4 ∷ 0xE2 ∷ 0x79 ∷ 0xDC ∷ 0xC1 ∷ 0xC4 ∷
     ≡ codes "need aesni 0 VAESENC\nneed avx 0 VAESENC\nneed f16c 5 VCVTPH2PS\n"
     ++ codes "profiles bulldozer piledriver steamroller excavator zen zen2 zen3 zen4 zen5 "
     ++ codes "ivybridge haswell haswell_ex broadwell skylake kabylake\n"
-unfolding least_lines profiles_line firsts all_needed covers least swept_from first_of_bytes digits opcode_name profiles
+unfolding least_lines profiles_line firsts all_needed covers least swept_from decode digits opcode_name profiles
     profile_of microarchitectures walk walk_form entry_of has_key table steps form_row groups has_groups mark_of
     opcode_of has_imm permits opcode_condition slots index_bank gathers size_of sizes v_rule gives
 both_of_one = refl
 
 stopped : least_lines (0xC5 ∷ 0xF8 ∷ 0x77 ∷ 0x33 ∷ [])
     ≡ codes "stopped 3 Outside\n"
-unfolding least_lines profiles_line firsts all_needed covers least swept_from first_of_bytes digits opcode_name profiles
+unfolding least_lines profiles_line firsts all_needed covers least swept_from decode digits opcode_name profiles
     profile_of microarchitectures walk walk_form entry_of has_key table steps form_row groups has_groups mark_of
     opcode_of has_imm permits opcode_condition slots index_bank gathers size_of sizes v_rule gives
 stopped = refl
@@ -129,7 +130,7 @@ stopped = refl
 nothing_needed : least_lines ([])
     ≡ codes "profiles k8 k10 bulldozer piledriver steamroller excavator zen zen2 zen3 zen4 zen5 netburst core penryn "
     ++ codes "nehalem westmere sandybridge ivybridge haswell haswell_ex broadwell skylake kabylake\n"
-unfolding least_lines profiles_line firsts all_needed covers least swept_from first_of_bytes digits opcode_name profiles
+unfolding least_lines profiles_line firsts all_needed covers least swept_from decode digits opcode_name profiles
     profile_of microarchitectures walk walk_form entry_of has_key table steps form_row groups has_groups mark_of
     opcode_of has_imm permits opcode_condition slots index_bank gathers size_of sizes v_rule gives
 nothing_needed = refl

@@ -1,49 +1,17 @@
--- Lemmas that no contract cites: what `recode` answers as `first_of_bytes`, and a sweep instruction by instruction.
-use Rattle.std.proofs.Common.{◌≡◌, ℕ, zero, suc, ◌+◌, ◌-◌, ◌<◌, ◌≤◌, Bool, List, [], ◌∷◌, ◌++◌, length, take, drop}
-use Rattle.std.proofs.Common.{get_or, Some, None, Ok, Err, sym, ap, ◌∙◌, arith, add-zero, take-append-drop}
-use Rattle.std.proofs.lemmas.List.{length-drop}
+-- Lemmas that no contract cites: the numbers of a slice, and a sweep instruction by instruction.
+use Rattle.std.proofs.Common.{◌≡◌, ℕ, zero, suc, ◌+◌, ◌-◌, ◌<◌, ◌≤◌, Bool, List, [], ◌∷◌, length, drop}
+use Rattle.std.proofs.Common.{get_or, Ok, Err, sym, ap, ◌∙◌, arith, add-zero}
 use Rattle.x86_operand.specs.declared.error.DecodeError.{DecodeError}
-use Rattle.x86_operand.specs.Meaning.{Decoded, Meaning}
+use Rattle.x86_operand.specs.Meaning.{Decoded}
 use Rattle.x86_address.specs.Bytes.{IsBytes}
-use Rattle.vex_forms.specs.FormWalk.{taken}
-use Rattle.vex_decode.specs.Spelling.{Spells, meant}
-use Rattle.vex_decode.specs.Walk.{walk}
-use Rattle.vex_decode.specs.Blocked.{blocked}
-use Rattle.vex_decode.specs.Laws.{ReadingIsSpelling}
+use Rattle.vex_decode.specs.Decode.{decode}
 use Rattle.vex_encode.specs.declared.sweeper.SweepEnd.TheVariants.{Stopped}
-use Rattle.vex_encode.specs.Sweep.{decoded_by, decoded_unless, first_of_bytes, item_at, onto, swept_by, swept_from}
+use Rattle.vex_encode.specs.Sweep.{item_at, onto, swept_by, swept_from}
 
 -- the numbers of a slice are bytes
 pub are_bytes : (bytes : List ℕ) → ((i : ℕ) → get_or bytes i 0 < 256) → IsBytes bytes
 are_bytes [] h = tt
 are_bytes (byte ∷ bytes) h = (h 0, are_bytes bytes (λ i. h (suc i)))
-
--- bytes that begin with a permitted spelling
-pub first-spelled : (settings : List Bool) (bytes : List ℕ) (decoded : Decoded) → ReadingIsSpelling → IsBytes bytes
-    → blocked settings bytes ≡ None → decoded.len ≤ length bytes → Spells (take decoded.len bytes) decoded.meaning
-    → first_of_bytes settings bytes ≡ Ok decoded
-unfolding first_of_bytes
-first-spelled settings bytes decoded law is begun within spells =
-    let n = decoded.len in
-    let row = spells.row in
-    let parts = spells.by.parts in
-    let walked : walk bytes ≡ Ok ((row, parts), drop n bytes) = (law bytes row parts (drop n bytes) is).1 (record {
-      is_row = spells.is_row;
-      fits = spells.by.fits;
-      written = sym (take-append-drop n bytes) ∙ ap (λ front. front ++ drop n bytes) spells.by.written;
-    }) in
-    let left : taken bytes (drop n bytes) ≡ n = omega (arith, within, length-drop n bytes) in
-    ap (λ b. decoded_unless b bytes) begun
-    ∙ ap (decoded_by bytes) walked
-    ∙ ap (λ (k : ℕ). Ok (record { meaning = meant row parts; len = k })) left
-    ∙ ap (λ (m : Meaning). Ok (record { meaning = m; len = n })) (sym spells.by.means)
-
--- bytes that an error blocks
-pub first-blocked : (settings : List Bool) (bytes : List ℕ) (error : DecodeError) (n : ℕ)
-    → blocked settings bytes ≡ Some (error, n)
-    → first_of_bytes settings bytes ≡ Err error
-unfolding first_of_bytes
-first-blocked settings bytes error n is = ap (λ b. decoded_unless b bytes) is
 
 -- ---- one instruction after another
 
@@ -59,7 +27,7 @@ from-skip settings (suc k) place (b ∷ bs) within =
 
 -- an instruction, and the sweep of what follows it
 pub from-step : (settings : List Bool) (place : ℕ) (bytes : List ℕ) (decoded : Decoded)
-    → first_of_bytes settings bytes ≡ Ok decoded
+    → decode settings bytes ≡ Ok decoded
     → 1 ≤ decoded.len → decoded.len ≤ length bytes
     → swept_from settings 0 place bytes ≡ onto (item_at place bytes decoded)
     (swept_from settings 0 (place + decoded.len) (drop decoded.len bytes))
@@ -77,7 +45,7 @@ from-step settings place (b ∷ bs) decoded first some within =
 
 -- an error
 pub from-stop : (settings : List Bool) (place : ℕ) (bytes : List ℕ) (error : DecodeError)
-    → first_of_bytes settings bytes ≡ Err error → 0 < length bytes
+    → decode settings bytes ≡ Err error → 0 < length bytes
     → swept_from settings 0 place bytes ≡ record { items = []; end = Stopped place error }
 unfolding swept_from
 from-stop settings place [] error first some = absurd (omega arith)

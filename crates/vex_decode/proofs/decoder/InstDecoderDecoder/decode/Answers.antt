@@ -1,4 +1,5 @@
 use Rattle.std.proofs.Common.{refl}
+use Rattle.vex_decode.proofs.Slices.{answers_decode}
 use Rattle.vex_decode.proofs.decoder.InstDecoderDecoder.decode.Goals as goal
 
 pub returns-in-Ok-clause-decoded : goal.returns-in-Ok-clause-decoded
@@ -15,3 +16,9 @@ returns-in-Err-clause-complete g c = c.in-Err.ensures.complete
 
 pub returns-in-Err-clause-slice : goal.returns-in-Err-clause-slice
 returns-in-Err-clause-slice g c = c.in-Err.ensures.took.1
+
+pub returns-in-Ok-clause-answer : goal.returns-in-Ok-clause-answer
+returns-in-Ok-clause-answer g c = answers_decode _ _ c.in-Ok.ensures.took tt
+
+pub returns-in-Err-clause-answer : goal.returns-in-Err-clause-answer
+returns-in-Err-clause-answer g c = answers_decode _ _ tt c.in-Err.ensures.took.1

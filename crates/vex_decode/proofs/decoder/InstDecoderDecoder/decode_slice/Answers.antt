@@ -1,4 +1,6 @@
+use Rattle.std.proofs.Common.{refl, ap, ◌∙◌}
 use Rattle.vex_decode.proofs.Slices.{DecodesSlice, over_bytes, slice_begun, slice_ok, slice_refused}
+use Rattle.vex_decode.specs.Decode.{decode}
 use Rattle.vex_decode.proofs.decoder.InstDecoderDecoder.decode_slice.Goals as goal
 
 all : (c : goal.After-decode) → DecodesSlice c.args.self.now c.args.bytes.now c.decode.result
@@ -24,3 +26,8 @@ returns-clause-permitted c = slice_ok c.args.self.now c.args.bytes.now _ c.decod
 
 pub returns-clause-refused : goal.returns-clause-refused
 returns-clause-refused c = slice_refused _ _ c.decode.result (all c)
+
+pub returns-clause-answer : goal.returns-clause-answer
+returns-clause-answer c =
+    c.decode.ensures.answer (record c.new-words.result { since_mark = 0 }) c.decode.new.words refl refl
+    ∙ ap (decode c.args.self.now) c.new-words.ensures.left

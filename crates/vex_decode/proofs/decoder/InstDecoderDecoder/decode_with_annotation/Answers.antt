@@ -1,5 +1,6 @@
 use Rattle.std.proofs.Common.{refl}
 use Rattle.vex_decode.proofs.Rests.{notes_kept}
+use Rattle.vex_decode.proofs.Slices.{answers_decode}
 use Rattle.vex_decode.proofs.decoder.InstDecoderDecoder.decode_with_annotation.Goals as goal
 
 pub returns-in-Ok-clause-decoded : goal.returns-in-Ok-clause-decoded
@@ -28,3 +29,9 @@ returns-in-Err-clause-noted g c = c.in-Err.ensures.noted
 
 pub returns-in-Err-clause-kept : goal.returns-in-Err-clause-kept
 returns-in-Err-clause-kept g c = notes_kept c.in-Err.ensures.noted
+
+pub returns-in-Ok-clause-answer : goal.returns-in-Ok-clause-answer
+returns-in-Ok-clause-answer g c = answers_decode _ _ c.in-Ok.ensures.took tt
+
+pub returns-in-Err-clause-answer : goal.returns-in-Err-clause-answer
+returns-in-Err-clause-answer g c = answers_decode _ _ tt c.in-Err.ensures.took.1
