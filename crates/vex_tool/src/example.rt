@@ -1,25 +1,23 @@
 //! The example at the head of the crate.
 
-use crate::ends::Source;
-use crate::memory_ends::{MemSink, MemSource};
-use crate::run;
-use crate::status::Status;
-use crate::words::Words;
+use crate::gatherer::Gatherer;
+use crate::std_ends::{StdSink, StdSource};
+use vex_lines::{Status, Words, run};
 
 #[test]
 fn a_line_is_answered(rt: HostRuntime) {
     let mut words = Words::new();
     words.push("recode");
     words.push("default");
-    let mut source = MemSource::new(b"C4 E1 70 58 C2\n", 16, &[]);
-    let mut room = [0u8; 64];
-    let mut sink = MemSink::new(&mut room, &[]);
+    let mut out = Vec::new(rt.alloc());
+    let mut source = StdSource::new(b"C4 E1 70 58 C2\n".as_slice());
+    let mut sink = StdSink::new(Gatherer::new(&mut out));
     assert_eq!(rt;
         run(rt.alloc(), &words, &mut source, &mut sink),
         Status::Done
     );
     assert_eq!(rt;
-        sink.written(),
+        out.as_slice(),
         b"5 VADDPS x0 x1 x2 0 c5f058c2\n".as_slice()
     );
 }

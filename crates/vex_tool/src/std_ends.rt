@@ -2,11 +2,11 @@
 
 ghost use Rattle.std.specs.Prelude.{◌≡◌, ◌<◌, ◌≤◌, length, drop, None, Ok, IfOk, OnOk, OnErr};
 ghost use Rattle.std.specs.Io.KnownBytes.{Appends, Keeps, ReadConsumes};
-ghost use Rattle.vex_tool.specs.Ends.{RoseOrIsLast, AppendsFront, counted};
+ghost use Rattle.vex_lines.specs.Ends.{RoseOrIsLast, AppendsFront, counted};
 
-use crate::ends::{Failed, PIECE, Sink, Source};
 use std::io::{Read, Write};
 use std::marker::Model;
+use vex_lines::{Failed, PIECE, Sink, Source};
 
 /// A source over a reader. Each call makes one read, and fails where that read does. It reads into a piece of its own,
 /// so that a read that fails changes nothing of what it was to fill.

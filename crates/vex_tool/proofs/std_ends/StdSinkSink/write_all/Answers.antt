@@ -1,5 +1,5 @@
 use Rattle.std.proofs.lemmas.List.{take_rest}
-use Rattle.vex_tool.proofs.EndsLemmas.{Writing-step}
+use Rattle.vex_tool.proofs.Writing.{Writing-step}
 use Rattle.vex_tool.proofs.std_ends.StdSinkSink.write_all.Goals as goal
 
 pub loop-rest-preserved : goal.loop-rest-preserved

@@ -1,5 +1,5 @@
 use Rattle.std.proofs.Common.{◌≡◌, length}
-use Rattle.vex_tool.proofs.EndsLemmas.{Writing}
+use Rattle.vex_tool.proofs.Writing.{Writing}
 use Rattle.vex_tool.proofs.std_ends.StdSinkSink.write_all.Given as goal
 
 abbrev pub invariant-loop-rest : goal.invariant-loop-rest

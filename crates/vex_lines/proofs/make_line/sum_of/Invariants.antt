@@ -1,0 +1,6 @@
+-- The sum of the bytes so far.
+use Rattle.std.proofs.Common.{◌≡◌, ◌≤◌, ◌*◌, take, sum}
+use Rattle.vex_lines.proofs.make_line.sum_of.Given as goal
+
+abbrev pub invariant-loop-byte : goal.invariant-loop-byte
+invariant-loop-byte l = (l.sum ≡ sum (take l.byte-index l.bytes)) × (l.sum ≤ 255 * l.byte-index)

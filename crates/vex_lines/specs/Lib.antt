@@ -1,0 +1,17 @@
+pub mod Ends
+pub mod MemoryEnds
+pub mod Status
+pub mod Lines
+pub mod Command
+pub mod ErrorLine
+pub mod ResultLine
+pub mod AsmLine
+pub mod Laws
+pub mod SweepLines
+pub mod NoteLines
+pub mod LeastLines
+pub mod EmulateLines
+pub mod SpellingLines
+pub mod Generator
+pub mod Report
+pub mod Internal

@@ -1,6 +1,0 @@
--- The totals of the spellings so far.
-use Rattle.vex_tool.specs.Totals.{IsTotals}
-use Rattle.vex_tool.proofs.make_line.add_up.Given as goal
-
-abbrev pub invariant-loop-i : goal.invariant-loop-i
-invariant-loop-i l = IsTotals l.totals l.i

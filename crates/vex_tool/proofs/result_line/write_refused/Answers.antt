@@ -1,9 +1,0 @@
-use Rattle.std.proofs.Common.{ap, ◌∙◌}
-use Rattle.vex_tool.specs.ErrorLine.{error_line}
-use Rattle.vex_tool.proofs.result_line.write_refused.Goals as goal
-
-pub returns : goal.returns
-returns g c =
-    let piece = c.as_bytes.ensures.value ∙ c.as_str.ensures.value ∙ c.error_text.ensures ∙ ap error_line c.name.ensures in
-    let written = rw piece at c.write_all.ensures in
-    record { appends = written.appends; quiet = written.quiet; front = written.front; cause = written.cause }
