@@ -12,7 +12,7 @@ use Rattle.x86_settings.specs.Settings.{aesni, avx, bmi2, f16c}
 use Rattle.x86_settings.specs.Sets.{exactly}
 use Rattle.x86_permit.specs.LeastSettings.{least}
 use Rattle.x86_permit.specs.Permission.{permits}
-use Rattle.x86_address.specs.Shortest.{shortest}
+use Rattle.x86_address.specs.Shortest.{shortest_in}
 use Rattle.vex_rows.specs.Groups.{groups}
 use Rattle.vex_rows.specs.Rules.{has_key}
 use Rattle.vex_rows.specs.Row.{rows, choices, exists, has_groups, has_imm, mark_of, opcode_of}
@@ -37,7 +37,7 @@ two_bits : firsts (run (0xC5 ∷ 0xFA ∷ 0x10 ∷ 0x07 ∷ 0xC5 ∷ 0xFA ∷ 0x
     ≡ record { bit = avx; place = 0; opcode = Float VMOVSS } ∷ record { bit = bmi2; place = 8; opcode = Integer RORX } ∷
     []
 unfolding firsts all_needed least swept_from decode walk walk_form entry_of has_key table steps form_row groups
-    has_groups mark_of opcode_of has_imm permits opcode_condition canon rows choices exists standard candidate shortest
+    has_groups mark_of opcode_of has_imm permits opcode_condition canon rows choices exists standard candidate shortest_in
     slots index_bank gathers size_of sizes v_rule gives same_meaning same_operands same_operand same_register same_bank
     same_index same_address same_opcode opcode_number
 two_bits = refl
@@ -46,7 +46,7 @@ two_bits = refl
 two_bits_in_all : all_needed (run (0xC5 ∷ 0xFA ∷ 0x10 ∷ 0x07 ∷ 0xC5 ∷ 0xFA ∷ 0x58 ∷ 0x06 ∷ 0xC4 ∷ 0xE3 ∷ 0x7B ∷ 0xF0 ∷
     0xC1 ∷ 0x05 ∷ [])).items ≡ exactly (avx ∷ bmi2 ∷ [])
 unfolding firsts all_needed least swept_from decode walk walk_form entry_of has_key table steps form_row groups
-    has_groups mark_of opcode_of has_imm permits opcode_condition canon rows choices exists standard candidate shortest
+    has_groups mark_of opcode_of has_imm permits opcode_condition canon rows choices exists standard candidate shortest_in
     slots index_bank gathers size_of sizes v_rule gives same_meaning same_operands same_operand same_register same_bank
     same_index same_address same_opcode opcode_number
 two_bits_in_all = refl
@@ -57,7 +57,7 @@ both_of_one : firsts (run (0xC4 ∷ 0xE2 ∷ 0x79 ∷ 0xDC ∷ 0xC1 ∷ 0xC4 ∷
     record { bit = avx; place = 0; opcode = Integer VAESENC }
     ∷ record { bit = f16c; place = 5; opcode = Float VCVTPH2PS } ∷ []
 unfolding firsts all_needed least swept_from decode walk walk_form entry_of has_key table steps form_row groups
-    has_groups mark_of opcode_of has_imm permits opcode_condition canon rows choices exists standard candidate shortest
+    has_groups mark_of opcode_of has_imm permits opcode_condition canon rows choices exists standard candidate shortest_in
     slots index_bank gathers size_of sizes v_rule gives same_meaning same_operands same_operand same_register same_bank
     same_index same_address same_opcode opcode_number
 both_of_one = refl
@@ -65,7 +65,7 @@ both_of_one = refl
 -- nothing blocks them
 no_fault : fault (run (0xC4 ∷ 0xE2 ∷ 0x79 ∷ 0xDC ∷ 0xC1 ∷ 0xC4 ∷ 0xE2 ∷ 0x79 ∷ 0x13 ∷ 0xC1 ∷ [])) ≡ None
 unfolding firsts all_needed least swept_from decode walk walk_form entry_of has_key table steps form_row groups
-    has_groups mark_of opcode_of has_imm permits opcode_condition canon rows choices exists standard candidate shortest
+    has_groups mark_of opcode_of has_imm permits opcode_condition canon rows choices exists standard candidate shortest_in
     slots index_bank gathers size_of sizes v_rule gives same_meaning same_operands same_operand same_register same_bank
     same_index same_address same_opcode opcode_number
 no_fault = refl
@@ -73,7 +73,7 @@ no_fault = refl
 -- a byte that begins no instruction
 blocked_rest : fault (run (0xC5 ∷ 0xF8 ∷ 0x77 ∷ 0x33 ∷ [])) ≡ Some (record { place = 3; cause = Blocked Outside })
 unfolding firsts all_needed least swept_from decode walk walk_form entry_of has_key table steps form_row groups
-    has_groups mark_of opcode_of has_imm permits opcode_condition canon rows choices exists standard candidate shortest
+    has_groups mark_of opcode_of has_imm permits opcode_condition canon rows choices exists standard candidate shortest_in
     slots index_bank gathers size_of sizes v_rule gives same_meaning same_operands same_operand same_register same_bank
     same_index same_address same_opcode opcode_number
 blocked_rest = refl
@@ -82,7 +82,7 @@ blocked_rest = refl
 cut_rest : fault (run (0xC5 ∷ 0xF8 ∷ 0x77 ∷ 0xC5 ∷ 0xF8 ∷
     [])) ≡ Some (record { place = 3; cause = Blocked ExhaustedInput })
 unfolding firsts all_needed least swept_from decode walk walk_form entry_of has_key table steps form_row groups
-    has_groups mark_of opcode_of has_imm permits opcode_condition canon rows choices exists standard candidate shortest
+    has_groups mark_of opcode_of has_imm permits opcode_condition canon rows choices exists standard candidate shortest_in
     slots index_bank gathers size_of sizes v_rule gives same_meaning same_operands same_operand same_register same_bank
     same_index same_address same_opcode opcode_number
 cut_rest = refl
@@ -90,7 +90,7 @@ cut_rest = refl
 -- no instruction needs no bit
 nothing_needed : firsts (run []).items ≡ []
 unfolding firsts all_needed least swept_from decode walk walk_form entry_of has_key table steps form_row groups
-    has_groups mark_of opcode_of has_imm permits opcode_condition canon rows choices exists standard candidate shortest
+    has_groups mark_of opcode_of has_imm permits opcode_condition canon rows choices exists standard candidate shortest_in
     slots index_bank gathers size_of sizes v_rule gives same_meaning same_operands same_operand same_register same_bank
     same_index same_address same_opcode opcode_number
 nothing_needed = refl

@@ -9,7 +9,7 @@ use Rattle.x86_operand.specs.Same.{same_meaning, same_operands, same_operand, sa
 use Rattle.x86_operand.specs.Same.{same_address}
 use Rattle.x86_settings.specs.Bits.{all_bits, no_bits}
 use Rattle.x86_permit.specs.Permission.{permits}
-use Rattle.x86_address.specs.Shortest.{shortest}
+use Rattle.x86_address.specs.Shortest.{shortest_in}
 use Rattle.vex_rows.specs.Groups.{groups}
 use Rattle.vex_rows.specs.Rules.{has_key}
 use Rattle.vex_rows.specs.Row.{rows, choices, exists, has_groups, has_imm, mark_of, opcode_of}
@@ -29,7 +29,7 @@ use Rattle.vex_lines.specs.ResultLine.{result_line}
 swapped : result_line all_bits (0xC4 ∷ 0xC1 ∷ 0x78 ∷ 0x28 ∷ 0xC0 ∷ []) ≡ codes "5 VMOVAPS x0 x8 0 c57829c0\n"
 unfolding result_line text digits encode_with walk walk_form entry_of has_key table steps form_row groups has_groups
     mark_of opcode_of has_imm permits opcode_condition opcode_name canon rows choices exists standard candidate
-    shortest slots index_bank gathers size_of sizes v_rule gives same_meaning same_operands same_operand same_register
+    shortest_in slots index_bank gathers size_of sizes v_rule gives same_meaning same_operands same_operand same_register
     same_bank same_opcode opcode_number
 swapped = refl
 
@@ -37,7 +37,7 @@ swapped = refl
 two_bytes : result_line all_bits (0xC4 ∷ 0xE1 ∷ 0x70 ∷ 0x58 ∷ 0xC2 ∷ []) ≡ codes "5 VADDPS x0 x1 x2 0 c5f058c2\n"
 unfolding result_line text digits encode_with walk walk_form entry_of has_key table steps form_row groups has_groups
     mark_of opcode_of has_imm permits opcode_condition opcode_name canon rows choices exists standard candidate
-    shortest slots index_bank gathers size_of sizes v_rule gives same_meaning same_operands same_operand same_register
+    shortest_in slots index_bank gathers size_of sizes v_rule gives same_meaning same_operands same_operand same_register
     same_bank same_opcode opcode_number
 two_bytes = refl
 
@@ -45,7 +45,7 @@ two_bytes = refl
 wide : result_line all_bits (0xC5 ∷ 0xF4 ∷ 0x58 ∷ 0xC2 ∷ []) ≡ codes "4 VADDPS y0 y1 y2 0 c5f458c2\n"
 unfolding result_line text digits encode_with walk walk_form entry_of has_key table steps form_row groups has_groups
     mark_of opcode_of has_imm permits opcode_condition opcode_name canon rows choices exists standard candidate
-    shortest slots index_bank gathers size_of sizes v_rule gives same_meaning same_operands same_operand same_register
+    shortest_in slots index_bank gathers size_of sizes v_rule gives same_meaning same_operands same_operand same_register
     same_bank same_opcode opcode_number
 wide = refl
 
@@ -53,7 +53,7 @@ wide = refl
 followed : result_line all_bits (0xC5 ∷ 0xF8 ∷ 0x77 ∷ 0xFF ∷ 0xFF ∷ []) ≡ codes "3 VZEROUPPER 0 c5f877\n"
 unfolding result_line text digits encode_with walk walk_form entry_of has_key table steps form_row groups has_groups
     mark_of opcode_of has_imm permits opcode_condition opcode_name canon rows choices exists standard candidate
-    shortest slots index_bank gathers size_of sizes v_rule gives same_meaning same_operands same_operand same_register
+    shortest_in slots index_bank gathers size_of sizes v_rule gives same_meaning same_operands same_operand same_register
     same_bank same_opcode opcode_number
 followed = refl
 
@@ -61,21 +61,21 @@ followed = refl
 zeros_all : result_line all_bits (0xC5 ∷ 0xFC ∷ 0x77 ∷ []) ≡ codes "3 VZEROALL 0 c5fc77\n"
 unfolding result_line text digits encode_with walk walk_form entry_of has_key table steps form_row groups has_groups
     mark_of opcode_of has_imm permits opcode_condition opcode_name canon rows choices exists standard candidate
-    shortest slots index_bank gathers size_of sizes v_rule gives same_meaning same_operands same_operand same_register
+    shortest_in slots index_bank gathers size_of sizes v_rule gives same_meaning same_operands same_operand same_register
     same_bank same_opcode opcode_number
 zeros_all = refl
 
 nothing_there : result_line all_bits [] ≡ codes "error ExhaustedInput\n"
 unfolding result_line text digits encode_with walk walk_form entry_of has_key table steps form_row groups has_groups
     mark_of opcode_of has_imm permits opcode_condition opcode_name canon rows choices exists standard candidate
-    shortest slots index_bank gathers size_of sizes v_rule gives same_meaning same_operands same_operand same_register
+    shortest_in slots index_bank gathers size_of sizes v_rule gives same_meaning same_operands same_operand same_register
     same_bank same_opcode opcode_number
 nothing_there = refl
 
 first_byte : result_line all_bits (0x33 ∷ 0xC0 ∷ []) ≡ codes "error Outside\n"
 unfolding result_line text digits encode_with walk walk_form entry_of has_key table steps form_row groups has_groups
     mark_of opcode_of has_imm permits opcode_condition opcode_name canon rows choices exists standard candidate
-    shortest slots index_bank gathers size_of sizes v_rule gives same_meaning same_operands same_operand same_register
+    shortest_in slots index_bank gathers size_of sizes v_rule gives same_meaning same_operands same_operand same_register
     same_bank same_opcode opcode_number
 first_byte = refl
 
@@ -83,7 +83,7 @@ first_byte = refl
 in_memory : result_line all_bits (0xC5 ∷ 0xF8 ∷ 0x28 ∷ 0x00 ∷ []) ≡ codes "4 VMOVAPS x0 mq0/-/0 16 c5f82800\n"
 unfolding result_line text digits encode_with walk walk_form entry_of has_key table steps form_row groups has_groups
     mark_of opcode_of has_imm permits opcode_condition opcode_name canon rows choices exists standard candidate
-    shortest slots index_bank gathers size_of sizes v_rule gives same_meaning same_operands same_operand same_register
+    shortest_in slots index_bank gathers size_of sizes v_rule gives same_meaning same_operands same_operand same_register
     same_bank same_index same_address same_opcode opcode_number
 in_memory = refl
 
@@ -91,13 +91,13 @@ in_memory = refl
 cut : result_line no_bits (0xC5 ∷ 0xF8 ∷ []) ≡ codes "error ExhaustedInput\n"
 unfolding result_line text digits encode_with walk walk_form entry_of has_key table steps form_row groups has_groups
     mark_of opcode_of has_imm permits opcode_condition opcode_name canon rows choices exists standard candidate
-    shortest slots index_bank gathers size_of sizes v_rule gives same_meaning same_operands same_operand same_register
+    shortest_in slots index_bank gathers size_of sizes v_rule gives same_meaning same_operands same_operand same_register
     same_bank same_opcode opcode_number
 cut = refl
 
 not_permitted : result_line no_bits (0xC5 ∷ 0xF8 ∷ 0x77 ∷ []) ≡ codes "error InvalidOpcode\n"
 unfolding result_line text digits encode_with walk walk_form entry_of has_key table steps form_row groups has_groups
     mark_of opcode_of has_imm permits opcode_condition opcode_name canon rows choices exists standard candidate
-    shortest slots index_bank gathers size_of sizes v_rule gives same_meaning same_operands same_operand same_register
+    shortest_in slots index_bank gathers size_of sizes v_rule gives same_meaning same_operands same_operand same_register
     same_bank same_opcode opcode_number
 not_permitted = refl

@@ -111,7 +111,7 @@ taken-long true line long =
     ap (λ (b : Bool). cond b (Err LongLine) (Ok line)) above
 taken-long false line long = code-long line long
 
-line_report-long : (c : LineCommand) (line : List ℕ) → 8192 < length line → line_report c line ≡ long_line
+pub line_report-long : (c : LineCommand) (line : List ℕ) → 8192 < length line → line_report c line ≡ long_line
 unfolding line_report
 line_report-long c line long = ap (or_error (answer c)) (taken-long (reads_text c) line long)
 

@@ -3,10 +3,9 @@
 
 use crate::laws::{assembled_lines, result_line_assembles};
 use crate::memory_ends::{MemSink, MemSource};
-use crate::run;
-use crate::{LineCommand, LineRoom, MEMORY_BYTES, answer_line};
 use crate::status::Status;
 use crate::tests::words_of;
+use crate::{LineCommand, LineRoom, MEMORY_BYTES, answer_line, run};
 use std::alloc::Global;
 use std::process::Abort;
 use x86_settings::InstDecoder;
