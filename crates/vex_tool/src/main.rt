@@ -25,6 +25,8 @@ ghost use Rattle.std.specs.Prelude.{◌≡◌, ◌<◌, ◌≤◌, ◌↔◌, �
 ghost use Rattle.std.specs.Bool.{OnTrue, OnFalse};
 
 use gatherer::Gatherer;
+use help::text_asked;
+use hints::hint;
 use std::env::{Env, FillError};
 use std::process::ExitCode;
 use std_ends::{StdSink, StdSource};
@@ -33,6 +35,10 @@ use vex_lines::{MAX_WORD_LEN, Status, Words, run};
 #[cfg(test)]
 mod example;
 mod gatherer;
+mod help;
+#[cfg(test)]
+mod hint_tests;
+mod hints;
 mod std_ends;
 #[cfg(test)]
 mod tests;
@@ -66,16 +72,39 @@ fn push_arguments(env: &impl Env, words: &mut Words) {
     }
 }
 
+/// Writes to standard error how the run ended, and where the words were no command, what is wrong with them. Nothing is
+/// left to do where this fails too.
+fn complain(rt: &HostRuntime, status: Status, words: &Words) {
+    let _ = eprintln!(rt; "vex_tool: {}", status.name());
+    if status == Status::Usage {
+        if let Ok(hint) = hint(rt.alloc(), words) {
+            let _ = eprintln!(rt; "vex_tool: {hint}");
+        }
+    }
+}
+
+/// Writes a text to standard output.
+fn tell(rt: &HostRuntime, text: &str) -> Status {
+    match print!(rt; "{text}") {
+        Ok(()) => Status::Done,
+        Err(_) => Status::WriteFault,
+    }
+}
+
 fn main(rt: HostRuntime) -> ExitCode {
     let mut words = Words::new();
     push_arguments(&rt, &mut words);
-    let mut source = StdSource::new(rt.stdin());
-    // `run` hands on what is gathered before each read.
-    let mut sink = StdSink::new(Gatherer::new(rt.stdout()));
-    let status = run(rt.alloc(), &words, &mut source, &mut sink);
+    let status = match text_asked(&words) {
+        Some(text) => tell(&rt, text),
+        None => {
+            let mut source = StdSource::new(rt.stdin());
+            // `run` hands on what is gathered before each read.
+            let mut sink = StdSink::new(Gatherer::new(rt.stdout()));
+            run(rt.alloc(), &words, &mut source, &mut sink)
+        }
+    };
     if status != Status::Done {
-        // Nothing is left to do where this fails too.
-        let _ = eprintln!(rt; "vex_tool: {}", status.name());
+        complain(&rt, status, &words);
     }
     ExitCode::from(status.code())
 }
