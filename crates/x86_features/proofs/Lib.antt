@@ -1,0 +1,5 @@
+mod InOrder
+mod Operands
+mod Sets
+mod Needed
+mod Computed
