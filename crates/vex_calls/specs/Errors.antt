@@ -1,5 +1,5 @@
 -- The errors of the calls: their numbers and names.
-use Rattle.std.specs.Prelude.{ℕ, List, codes}
+use Rattle.std.specs.Prelude.{ℕ, List, codes, Option, Some, None, ◌==◌, if◌then◌else◌}
 use Rattle.x86_operand.specs.declared.error.DecodeError.{DecodeError}
 use Rattle.x86_operand.specs.declared.error.DecodeError.TheVariants as decode
 use Rattle.vex_calls.specs.declared.call_error.CallError.{CallError}
@@ -23,6 +23,24 @@ error_number NoRoom = 10
 error_number NoSuchName = 11
 error_number NoSuchNumber = 12
 error_number Marked = 13
+
+-- the error of a number, none of 0 and from 14 on
+abbrev pub error_of : ℕ → Option CallError
+error_of n =
+    if n == 1 then Some ExhaustedInput
+    else if n == 2 then Some InvalidOpcode
+    else if n == 3 then Some InvalidOperand
+    else if n == 4 then Some Outside
+    else if n == 5 then Some NoSpelling
+    else if n == 6 then Some BadInstruction
+    else if n == 7 then Some BadEncoding
+    else if n == 8 then Some BadText
+    else if n == 9 then Some BadSyntax
+    else if n == 10 then Some NoRoom
+    else if n == 11 then Some NoSuchName
+    else if n == 12 then Some NoSuchNumber
+    else if n == 13 then Some Marked
+    else None
 
 -- the name of an error
 abbrev pub error_name : CallError → List ℕ

@@ -1,7 +1,7 @@
 //! Why a call refuses.
 
 ghost use Rattle.std.specs.Prelude.{◌≡◌, ◌↔◌, ◌≤◌, IfSome, IsSome};
-ghost use Rattle.vex_calls.specs.Errors.{decode_error, error_name, error_number};
+ghost use Rattle.vex_calls.specs.Errors.{decode_error, error_name, error_number, error_of};
 
 use x86_operand::DecodeError;
 
@@ -61,6 +61,7 @@ impl CallError {
 
     /// The error of a number, and `None` of 0 and from 14 on.
     pub fn numbered(number: u32) -> Option<CallError>
+        ensures value { result ≡ error_of number }
         ensures number { IfSome result (λ error. error_number error ≡ number) }
         ensures there { IsSome result ↔ ((1 ≤ number) × (number ≤ 13)) }
     {
