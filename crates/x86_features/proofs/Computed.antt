@@ -1,5 +1,5 @@
 -- The features that examples need, and the processors that have them, computed.
-use Rattle.std.proofs.Common.{◌≡◌, ℕ, true, false, List, [], ◌∷◌, Option, Some, None, filter, pos, refl}
+use Rattle.std.proofs.Common.{◌≡◌, true, false, List, [], ◌∷◌, None, filter, refl}
 use Rattle.x86_opcode.specs.declared.Opcode.{Opcode}
 use Rattle.x86_opcode.specs.declared.Opcode.TheVariants.{Integer, Float, Fused, Legacy}
 use Rattle.x86_opcode.specs.declared.IntegerOpcode.TheVariants.{VPADDD, VAESENC, VPGATHERDD}

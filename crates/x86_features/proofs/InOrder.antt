@@ -1,13 +1,11 @@
 -- The laws of features and processors.
-use Rattle.std.proofs.Common.{◌≡◌, ◌↔◌, true, false, Bool, IsTrue, ◌||◌, List, refl}
-use Rattle.x86_opcode.specs.declared.Opcode.{Opcode}
+use Rattle.std.proofs.Common.{◌≡◌, refl}
 use Rattle.x86_opcode.specs.declared.Opcode.TheVariants.{Integer, Float}
 use Rattle.x86_opcode.specs.declared.IntegerOpcode.{IntegerOpcode}
 use Rattle.x86_opcode.specs.declared.IntegerOpcode.TheVariants.{ANDN}
 use Rattle.x86_opcode.specs.declared.FloatOpcode.{FloatOpcode}
 use Rattle.x86_opcode.specs.declared.FloatOpcode.TheVariants.{VADDPS}
 use Rattle.x86_uarch.specs.Profiles.{microarchitectures, profiles}
-use Rattle.x86_features.specs.declared.processor.Processor.{Processor}
 use Rattle.x86_features.specs.declared.processor.Processor.TheVariants.{K8}
 use Rattle.x86_features.specs.Needs.{integer_line, integer_line_at, float_line}
 use Rattle.x86_features.specs.Processors.{all_processors, processor_name, processor_line}

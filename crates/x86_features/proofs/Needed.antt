@@ -1,20 +1,20 @@
 -- Which instructions need a feature.
-use Rattle.std.proofs.Common.{◌≡◌, ◌↔◌, Bool, true, false, ◌||◌, ◌&&◌, IsTrue, List, refl, if◌then◌else◌}
+use Rattle.std.proofs.Common.{◌≡◌, ◌↔◌, Bool, true, false, ◌||◌, IsTrue, List, refl, if◌then◌else◌}
 use Rattle.x86_opcode.specs.declared.Opcode.{Opcode}
 use Rattle.x86_opcode.specs.declared.Opcode.TheVariants.{Invalid, BSF, Legacy, Integer, Float, Fused, Marked}
 use Rattle.x86_opcode.specs.Vex.{is_vex}
 use Rattle.x86_opcode.specs.Vex.Parts.{is_vex-vex_part}
-use Rattle.x86_operand.specs.Meaning.{OperandMeaning, Meaning}
+use Rattle.x86_operand.specs.Meaning.{OperandMeaning}
 use Rattle.x86_features.specs.declared.feature.Feature.{Feature}
 use Rattle.x86_features.specs.declared.feature.Feature.TheVariants as feature
-use Rattle.x86_features.specs.declared.feature.FeatureSet.{FeatureSet}
 use Rattle.x86_features.specs.declared.feature.TheConstants.{NONE}
 use Rattle.x86_features.specs.declared.rule.Rule.{Rule}
 use Rattle.x86_features.specs.declared.rule.Rule.TheVariants.{Avx, ByLength, AesByLength, Broadcast}
 use Rattle.x86_features.specs.declared.rule.VectorLength.{VectorLength}
 use Rattle.x86_features.specs.declared.rule.VectorLength.TheVariants.{Bits128, Bits256, Bits512}
 use Rattle.x86_features.specs.Features.{has}
-use Rattle.x86_features.specs.Needs.{integer_line, integer_line_at, float_line, opcode_rule, rule_features, marked_features}
+use Rattle.x86_features.specs.Needs.{integer_line, float_line, opcode_rule, rule_features}
+use Rattle.x86_features.specs.Needs.{marked_features}
 use Rattle.x86_features.specs.Needs.{plain_features, vector_length, has_memory, features}
 use Rattle.x86_features.specs.Laws.{VexAndMarkedNeedFeatures}
 use Rattle.x86_features.proofs.Sets.{has_some, some_has}

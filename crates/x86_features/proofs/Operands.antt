@@ -1,6 +1,6 @@
 -- What holds of at most four operands.
-use Rattle.std.proofs.Common.{◌≡◌, ℕ, ◌≤◌, Bool, true, false, ◌||◌, List, [], ◌∷◌, length, refl, arith}
-use Rattle.x86_operand.specs.Meaning.{OperandMeaning, nothing}
+use Rattle.std.proofs.Common.{◌≡◌, ◌≤◌, Bool, true, false, ◌||◌, List, [], ◌∷◌, length, refl, arith}
+use Rattle.x86_operand.specs.Meaning.{OperandMeaning}
 use Rattle.x86_operand.specs.Instruction.{operand_at}
 use Rattle.x86_features.specs.declared.rule.VectorLength.{VectorLength}
 use Rattle.x86_features.specs.declared.rule.VectorLength.TheVariants.{Bits128, Bits256, Bits512}

@@ -1,5 +1,5 @@
 -- What holds of sets of features.
-use Rattle.std.proofs.Common.{◌≡◌, ◌↔◌, Bool, true, false, ◌||◌, ◌&&◌, IsTrue, List, [], ◌∷◌, refl, sym, ap, subst, ◌∙◌}
+use Rattle.std.proofs.Common.{◌≡◌, Bool, true, false, ◌||◌, ◌&&◌, IsTrue, List, [], ◌∷◌, refl, sym, ap, subst, ◌∙◌}
 use Rattle.std.specs.Bool.{beq}
 use Rattle.std.proofs.lemmas.Bool.{and_parts, and_from}
 use Rattle.std.specs.List.{list_any}
@@ -14,7 +14,9 @@ use Rattle.x86_features.specs.Features.{all_features, has, union}
 -- whether two sets are one, feature by feature
 abbrev same : FeatureSet → FeatureSet → Bool
 same a b =
-    beq a.avx b.avx && (beq a.avx2 b.avx2 && (beq a.fma b.fma && (beq a.f16c b.f16c && (beq a.bmi1 b.bmi1 && (beq a.bmi2 b.bmi2 && (beq a.aes b.aes && (beq a.vaes b.vaes && (beq a.pclmulqdq b.pclmulqdq && (beq a.avx512f b.avx512f && (beq a.avx512vl b.avx512vl))))))))))
+    beq a.avx b.avx && (beq a.avx2 b.avx2 && (beq a.fma b.fma && (beq a.f16c b.f16c && (beq a.bmi1 b.bmi1 && (beq
+    a.bmi2 b.bmi2 && (beq a.aes b.aes && (beq a.vaes b.vaes && (beq a.pclmulqdq b.pclmulqdq && (beq a.avx512f
+    b.avx512f && (beq a.avx512vl b.avx512vl))))))))))
 
 beq_equal : (x y : Bool) → beq x y ≡ true → x ≡ y
 beq_equal true true h = refl
@@ -54,7 +56,10 @@ same_equal a b h =
 
 same_self : (a : FeatureSet) → same a a ≡ true
 same_self a =
-    and_from _ _ (beq_self a.avx) (and_from _ _ (beq_self a.avx2) (and_from _ _ (beq_self a.fma) (and_from _ _ (beq_self a.f16c) (and_from _ _ (beq_self a.bmi1) (and_from _ _ (beq_self a.bmi2) (and_from _ _ (beq_self a.aes) (and_from _ _ (beq_self a.vaes) (and_from _ _ (beq_self a.pclmulqdq) (and_from _ _ (beq_self a.avx512f) (beq_self a.avx512vl))))))))))
+    and_from _ _ (beq_self a.avx) (and_from _ _ (beq_self a.avx2) (and_from _ _ (beq_self a.fma) (and_from _ _
+    (beq_self a.f16c) (and_from _ _ (beq_self a.bmi1) (and_from _ _ (beq_self a.bmi2) (and_from _ _ (beq_self a.aes)
+    (and_from _ _ (beq_self a.vaes) (and_from _ _ (beq_self a.pclmulqdq) (and_from _ _ (beq_self a.avx512f)
+    (beq_self a.avx512vl))))))))))
 
 pub equal_same : (a b : FeatureSet) → a ≡ b → same a b ≡ true
 equal_same a b e = subst (λ z. same a z ≡ true) e (same_self a)

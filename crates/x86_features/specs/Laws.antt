@@ -1,5 +1,5 @@
 -- Laws of features and processors: each is the contract of a function in the module `laws`.
-use Rattle.std.specs.Prelude.{◌≡◌, ◌↔◌, true, ◌||◌, map, IsTrue}
+use Rattle.std.specs.Prelude.{◌≡◌, ◌↔◌, ◌||◌, map, IsTrue}
 use Rattle.x86_opcode.specs.declared.IntegerOpcode.{IntegerOpcode}
 use Rattle.x86_opcode.specs.declared.FloatOpcode.{FloatOpcode}
 use Rattle.x86_opcode.specs.declared.Opcode.TheVariants.{Integer, Float}

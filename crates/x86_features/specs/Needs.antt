@@ -10,7 +10,7 @@ use Rattle.x86_opcode.specs.contracts.IntegerOpcode as the_integer
 use Rattle.x86_opcode.specs.contracts.FloatOpcode as the_float
 use Rattle.x86_operand.specs.declared.register.RegisterBank.{RegisterBank}
 use Rattle.x86_operand.specs.declared.register.RegisterBank.TheVariants.{Y, Z}
-use Rattle.x86_operand.specs.Meaning.{OperandMeaning, register, signed, unsigned, memory, nothing, Meaning}
+use Rattle.x86_operand.specs.Meaning.{OperandMeaning, register, memory, Meaning}
 use Rattle.x86_features.specs.declared.feature.FeatureSet.{FeatureSet}
 use Rattle.x86_features.specs.declared.feature.TheConstants.{NONE, AVX, AVX2, FMA, F16C, BMI1, BMI2, VAES}
 use Rattle.x86_features.specs.declared.feature.TheConstants.{AVX_AND_AES, AVX_AND_PCLMULQDQ, AVX512F}

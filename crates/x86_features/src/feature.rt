@@ -1,6 +1,6 @@
 //! CPUID features, and sets of them.
 
-ghost use Rattle.std.specs.Prelude.{◌≡◌, ◌↔◌, IsTrue, true, false};
+ghost use Rattle.std.specs.Prelude.{◌≡◌, ◌↔◌, IsTrue, Some, true, false};
 ghost use Rattle.x86_features.specs.Features.{all_features, feature_name, has, union};
 
 use std::fmt;
@@ -64,12 +64,16 @@ impl Feature {
 
 /// Writes the name.
 impl fmt::Display for Feature {
+    ghost output = { λ feature. Some (feature_name feature) };
+
+    ghost styled_output = { λ feature _. Some (feature_name feature) };
+
     fn fmt<W: fmt::Write>(&self, f: &mut fmt::Formatter<W>) -> fmt::Result {
         f.write_str(self.name())
     }
 }
 
-/// A set of features.
+/// A set of features: each field is true where its feature is in the set.
 #[derive(Clone, Copy, PartialEq, Eq, Debug)]
 pub struct FeatureSet {
     pub avx: bool,

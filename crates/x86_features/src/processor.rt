@@ -1,6 +1,6 @@
 //! The processors that have names, and the features of each.
 
-ghost use Rattle.std.specs.Prelude.{◌≡◌, ◌↔◌, IsTrue, true};
+ghost use Rattle.std.specs.Prelude.{◌≡◌, ◌↔◌, IsTrue, Some, true};
 ghost use Rattle.x86_features.specs.declared.feature.Feature.{Feature};
 ghost use Rattle.x86_features.specs.Features.{has};
 ghost use Rattle.x86_features.specs.Processors.{all_processors, processor_features, processor_name, processor_named};
@@ -227,6 +227,10 @@ impl Processor {
 
 /// Writes the name.
 impl fmt::Display for Processor {
+    ghost output = { λ processor. Some (processor_name processor) };
+
+    ghost styled_output = { λ processor _. Some (processor_name processor) };
+
     fn fmt<W: fmt::Write>(&self, f: &mut fmt::Formatter<W>) -> fmt::Result {
         f.write_str(self.name())
     }

@@ -1,5 +1,5 @@
-//! The features of each VEX opcode, one line for each, in the order of the opcodes: what the column "CPUID Feature Flag"
-//! of the manual says at the opcode (Intel SDM volume 2, chapters 3 to 5).
+//! The features of each VEX opcode, one line for each, in the order of the opcodes: what the column "CPUID Feature
+//! Flag" of the manual says at the opcode (Intel SDM volume 2, chapters 3 to 5).
 
 use crate::rule::Rule;
 use x86_opcode::Opcode;

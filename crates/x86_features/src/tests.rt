@@ -1,4 +1,4 @@
-use crate::wanted::{HEADINGS, HOLDERS};
+use crate::wanted::{HEADINGS, HOLDERS, Heading};
 use crate::{Feature, FeatureSet, Processor, features_of};
 use std::process::Abort;
 use std::test::Fail;
@@ -36,32 +36,47 @@ fn check_needs(rt: &impl Abort, inst: &Instruction, wanted: &[Feature]) {
     check_set(rt, inst.opcode().name(), &features_of(inst), wanted);
 }
 
+/// The opcode of a name, which was in no heading before.
+fn listed(rt: &impl Abort, name: &str, seen: &mut [bool]) -> Opcode {
+    let found = Opcode::named(name);
+    assert!(rt; found.is_some(), "{name}");
+    let opcode = found.unwrap_or_default();
+    match seen.get_mut(usize::from(opcode.number())) {
+        Some(place) => {
+            assert!(rt; !*place, "{name} twice");
+            *place = true;
+        }
+        None => assert!(rt; false, "{name} has no place"),
+    }
+    opcode
+}
+
+/// An instruction of the opcode needs what its heading says, at both lengths and with and without an address.
+fn check_heading(rt: &impl Abort, opcode: Opcode, heading: &Heading) {
+    for (memory, place) in [(false, 0), (true, 1)] {
+        let short = with_operands(opcode, false, RegisterBank::X, memory);
+        check_needs(rt, &short, heading.short[place]);
+        let long = with_operands(opcode, false, RegisterBank::Y, memory);
+        check_needs(rt, &long, heading.long[place]);
+    }
+}
+
 #[test]
 fn opcodes_need_what_their_headings_say(rt: HostRuntime) {
-    let mut seen = 0;
+    let mut seen = [false; 551];
+    let seen = &mut seen[..];
     for heading in &HEADINGS {
         for name in heading.names {
-            let found = Opcode::named(name);
-            assert!(rt; found.is_some(), "{name}");
-            let opcode = found.unwrap_or_default();
-            for (memory, place) in [(false, 0), (true, 1)] {
-                let short = with_operands(opcode, false, RegisterBank::X, memory);
-                check_needs(&rt, &short, heading.short[place]);
-                let long = with_operands(opcode, false, RegisterBank::Y, memory);
-                check_needs(&rt, &long, heading.long[place]);
-            }
-            seen += 1;
+            check_heading(&rt, listed(&rt, name, seen), heading);
         }
     }
-    let mut vex = 0;
     for opcode in Opcode::all() {
-        if opcode.is_vex() {
-            vex += 1;
-        } else {
+        let was_seen = seen.get(usize::from(opcode.number())) == Some(&true);
+        assert_eq!(rt; was_seen, opcode.is_vex(), "{opcode}");
+        if !was_seen {
             check_needs(&rt, &Instruction::of(*opcode, false), &[]);
         }
     }
-    assert_eq!(rt; seen, vex);
 }
 
 #[test]
@@ -84,21 +99,20 @@ fn the_mark_needs_avx512(rt: HostRuntime) {
 #[test]
 fn processors_have_what_the_manuals_say(rt: HostRuntime) {
     for (feature, holders) in &HOLDERS {
-        let mut found = 0;
+        for name in *holders {
+            assert!(rt; Processor::named(name).is_some(), "{name}");
+        }
         for processor in Processor::all() {
             let has = processor.features().has(*feature);
-            let is_holder = holders.iter().any(|name| *name == processor.name());
-            assert_eq!(rt; has, is_holder, "{processor} {feature}");
-            assert!(rt;
-                Processor::named(processor.name()) == Some(*processor),
-                "{processor}"
+            assert_eq!(rt;
+                has,
+                holders.contains(&processor.name()),
+                "{processor} {feature}"
             );
-            if has {
-                found += 1;
-            }
         }
-        assert_eq!(rt; found, holders.len(), "{feature}");
     }
-    assert!(rt; Processor::named("Haswell").is_none());
-    assert!(rt; Processor::named("default").is_none());
+    assert!(rt; Processor::named("zen4") == Some(Processor::Zen4));
+    for other in ["", "Haswell", "default", "haswell-ex", "zen1"] {
+        assert!(rt; Processor::named(other).is_none(), "{other}");
+    }
 }

@@ -1,4 +1,4 @@
-use Rattle.std.proofs.Common.{◌≡◌, sym, ◌∙◌}
+use Rattle.std.proofs.Common.{sym, ◌∙◌}
 use Rattle.x86_features.proofs.Sets.{union_includes, included_union}
 use Rattle.x86_features.proofs.feature.FeatureSet.includes.Goals as goal
 

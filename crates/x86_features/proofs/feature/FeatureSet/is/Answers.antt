@@ -1,4 +1,4 @@
-use Rattle.std.proofs.Common.{◌≡◌, sym, ◌∙◌}
+use Rattle.std.proofs.Common.{sym, ◌∙◌}
 use Rattle.x86_features.proofs.Sets.{same_equal, equal_same}
 use Rattle.x86_features.proofs.feature.FeatureSet.is.Goals as goal
 
