@@ -1,0 +1,5 @@
+pub mod Filled
+pub mod Decoded
+pub mod Named
+pub mod Running
+pub mod Told

@@ -1,0 +1,5 @@
+pub mod Answers
+pub mod Decoding
+pub mod Encoding
+pub mod Runs
+pub mod Texts
