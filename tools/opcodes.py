@@ -8,7 +8,8 @@
 These are, in src/: the enum of opcodes and of each part (lib.rt), a file for each part with its constants, names and
 conditions, the list of all opcodes (list.rt) and where the opcode of a name stands (slots.rt); in specs/: the numbers,
 the names, the constants, the conditions and the VEX opcodes, with the lemmas that go opcode by opcode; in proofs/: the
-tags. No file of the crate is written in part by hand and in part by this script.
+tags. No file of the crate is written in part by hand and in part by this script. The numbers of the opcodes for C
+(include/vex_opcodes.h) are written too.
 """
 import argparse
 import difflib
@@ -381,6 +382,14 @@ def vex_parts(parts):
     return text + body
 
 
+def header(parts):
+    """The numbers of the opcodes, for C."""
+    text = [f"/* The numbers of the opcodes, {NOTE}. They never change; new ones come at the end. */"]
+    text += ["#ifndef VEX_OPCODES_H", "#define VEX_OPCODES_H", "", "enum vex_opcode {"]
+    text += [f"    VEX_OPCODE_{name.upper()} = {number}," for number, name in enumerate(all_names(parts))]
+    return text + [f"    VEX_OPCODE_COUNT = {len(all_names(parts))}", "};", "", "#endif"]
+
+
 def settle(files, script, check):
     """Writes the lines of each file, or with `check` shows how each differs. Answers 1 where one does, and else 0."""
     status = 0
@@ -422,7 +431,9 @@ def main():
         "proofs/Tags.antt": tags(parts),
     }
     files |= {f"src/{part.low}.rt": part_file(part) for part in parts}
-    return settle({CRATE / name: lines for name, lines in files.items()}, "tools/opcodes.py", check)
+    paths = {CRATE / name: lines for name, lines in files.items()}
+    paths[HERE.parent / "include" / "vex_opcodes.h"] = header(parts)
+    return settle(paths, "tools/opcodes.py", check)
 
 
 if __name__ == "__main__":
