@@ -83,7 +83,7 @@ typedef struct vex_register {
     uint8_t number;
 } vex_register;
 
-/* An operand. Fields that its kind doesn't use are 0 where it comes from a call, and are ignored where it goes to one. */
+/* An operand. Fields that its kind doesn't use are 0 where it comes from a call, and ignored where it goes to one. */
 typedef struct vex_operand {
     uint8_t kind;         /* enum vex_kind */
     uint8_t scale;        /* of the index of an address: the factor; 0 where there is none */
@@ -104,7 +104,7 @@ typedef struct vex_instruction {
     uint16_t opcode;       /* enum vex_opcode */
     uint8_t mark;          /* 1 where it has the EVEX mark */
     uint8_t operand_count; /* 0 to 4 */
-    uint8_t size;          /* of its memory operand in bytes, 1 to 64, VEX_SIZE_UNKNOWN among them; 0 where there is none */
+    uint8_t size;          /* of its memory operand in bytes, 1 to 64 or VEX_SIZE_UNKNOWN; 0 where there is none */
     uint8_t length;        /* of the bytes that spelled it */
     uint16_t reserved;     /* 0 */
     vex_operand operands[4];
@@ -146,8 +146,9 @@ uint32_t vex_encode(const vex_instruction *instruction, vex_encoding *encoding);
 
 /*
  * The least bytes of an instruction that come after the given ones, byte by byte, where a beginning comes before what
- * it begins: from length 0 on, each of all its spellings once. VEX_BAD_INSTRUCTION, VEX_BAD_ENCODING where after->length
- * is above 15, or VEX_NO_SPELLING where there are no further ones. `after` and `encoding` may not be one place.
+ * it begins: from length 0 on, each of all its spellings once. VEX_BAD_INSTRUCTION, VEX_BAD_ENCODING where
+ * after->length is above 15, or VEX_NO_SPELLING where there are no further ones. `after` and `encoding` may not be one
+ * place.
  */
 uint32_t vex_next_spelling(const vex_instruction *instruction, const vex_encoding *after, vex_encoding *encoding);
 
@@ -161,8 +162,8 @@ uint32_t vex_decode_all(const vex_settings *settings, const uint8_t *bytes, size
                         size_t room, vex_taken *taken);
 
 /*
- * The text of an instruction, and a 0 behind it. VEX_BAD_SYNTAX, VEX_BAD_INSTRUCTION, or VEX_NO_ROOM, which VEX_TEXT_ROOM
- * never meets.
+ * The text of an instruction, and a 0 behind it. VEX_BAD_SYNTAX, VEX_BAD_INSTRUCTION, or VEX_NO_ROOM, which doesn't
+ * come with room for VEX_TEXT_ROOM.
  */
 uint32_t vex_format(const vex_instruction *instruction, uint32_t syntax, char *text, size_t room);
 

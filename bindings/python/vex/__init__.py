@@ -14,8 +14,8 @@ import os
 import pathlib
 from ctypes import POINTER, c_char, c_char_p, c_int32, c_size_t, c_uint8, c_uint16, c_uint32, c_uint64
 
-__all__ = ["Error", "Instruction", "Operand", "Register", "Settings", "decode", "decode_all", "default", "needed", "named",
-           "opcode_name", "opcode_named", "parse", "version"]
+__all__ = ["Error", "Instruction", "Operand", "Register", "Settings", "decode", "decode_all", "default", "needed",
+           "named", "opcode_name", "opcode_named", "parse", "version"]
 
 KIND_NONE, KIND_REGISTER, KIND_SIGNED, KIND_UNSIGNED, KIND_MEMORY = range(5)
 BANKS = ("", "Q", "D", "X", "Y", "Z", "RIP")
