@@ -1,5 +1,5 @@
 -- How a decode ends.
-use Rattle.std.proofs.Common.{◌≡◌, ◌↔◌, ℕ, Bool, List, None, Some, Result, Ok, Err}
+use Rattle.std.proofs.Common.{◌≡◌, ◌↔◌, ℕ, Bool, List, None, Result, Ok, Err}
 use Rattle.std.specs.Prelude.{IfOk, IfErr}
 use Rattle.vex_decode.specs.Blocked.{blocked}
 use Rattle.vex_calls.specs.declared.call_error.CallError.{CallError}

@@ -1,5 +1,5 @@
 -- What a call that fills a place leaves, by its answer.
-use Rattle.std.proofs.Common.{◌≡◌, ◌≢◌, ◌↔◌, ◌≤◌, ℕ, Option, Some, None, Result, Ok, Err, arith, sym, subst, ap, ◌∙◌}
+use Rattle.std.proofs.Common.{◌≡◌, ◌≢◌, ◌↔◌, ◌≤◌, ℕ, Result, Ok, Err, arith, sym, subst}
 use Rattle.std.specs.Prelude.{IfOk, IfErr}
 use Rattle.vex_calls.specs.declared.call_error.CallError.{CallError}
 use Rattle.vex_calls.specs.declared.call_error.CallError.TheVariants.{ExhaustedInput, InvalidOpcode, InvalidOperand}

@@ -1,5 +1,5 @@
 -- A run into places, instruction by instruction.
-use Rattle.std.proofs.Common.{◌≡◌, ℕ, suc, ◌+◌, ◌<◌, ◌≤◌, Bool, true, false, List, [], ◌∷◌, ◌++◌, length, take, drop, Ok, Err}
+use Rattle.std.proofs.Common.{◌≡◌, ℕ, suc, ◌+◌, ◌<◌, ◌≤◌, Bool, List, [], ◌∷◌, ◌++◌, length, take, drop, Ok, Err}
 use Rattle.std.proofs.Common.{refl, sym, ap, ◌∙◌, arith, set, get_or, add-one, append_assoc, map, nat_lt, cond}
 use Rattle.std.proofs.lemmas.Bool.Decides.{nat_tests}
 use Rattle.std.proofs.lemmas.List.{append-nil, drop-drop, drop_all, length-append, length-drop, length-map, length-take-le}
@@ -14,7 +14,6 @@ use Rattle.vex_encode.specs.Sweep.Lemmas.{from-step, from-stop}
 use Rattle.vex_calls.specs.declared.flat_instruction.FlatInstruction.{FlatInstruction}
 use Rattle.vex_calls.specs.Errors.{decode_error, error_number}
 use Rattle.vex_calls.specs.Instructions.{flat_instruction}
-use Rattle.vex_c.specs.declared.runs.Taken.{Taken}
 use Rattle.vex_c.specs.Runs.{HoldsRun, end_number, flat_item, run_number}
 
 -- the items, and then a sweep

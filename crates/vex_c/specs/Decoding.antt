@@ -1,12 +1,11 @@
 -- What a decode answers.
-use Rattle.std.specs.Prelude.{◌≡◌, ◌≤◌, ℕ, Bool, true, List, length, take, Some, None, Result, Ok, Err}
+use Rattle.std.specs.Prelude.{◌≡◌, ◌≤◌, ℕ, Bool, true, List, length, take, Some, None}
 use Rattle.x86_operand.specs.declared.error.DecodeError.{DecodeError}
 use Rattle.x86_operand.specs.Meaning.{Decoded}
 use Rattle.x86_permit.specs.Permission.{permits}
 use Rattle.vex_decode.specs.Spelling.{Spells}
 use Rattle.vex_decode.specs.Blocked.{blocked}
 use Rattle.vex_encode.specs.Canon.{canon}
-use Rattle.vex_calls.specs.declared.call_error.CallError.{CallError}
 use Rattle.vex_calls.specs.declared.flat_bytes.FlatBytes.{FlatBytes}
 use Rattle.vex_calls.specs.declared.flat_instruction.FlatInstruction.{FlatInstruction}
 use Rattle.vex_calls.specs.Encodings.{flat_bytes}

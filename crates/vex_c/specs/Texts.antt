@@ -6,11 +6,9 @@ use Rattle.x86_opcode.specs.Number.{opcode_number}
 use Rattle.x86_operand.specs.Meaning.{Meaning}
 use Rattle.vex_asm.specs.Laws.{IsTextOf}
 use Rattle.vex_asm.specs.Text.{text}
-use Rattle.vex_calls.specs.declared.call_error.CallError.{CallError}
-use Rattle.vex_calls.specs.declared.call_error.CallError.TheVariants.{BadInstruction, BadSyntax, BadText, NoSuchNumber}
 use Rattle.vex_calls.specs.declared.flat_instruction.FlatInstruction.{FlatInstruction}
-use Rattle.vex_calls.specs.Errors.{error_name, error_number, error_of}
-use Rattle.vex_calls.specs.Instructions.{flat_instruction, meaning_of}
+use Rattle.vex_calls.specs.Errors.{error_name, error_of}
+use Rattle.vex_calls.specs.Instructions.{flat_instruction}
 use Rattle.vex_c.specs.Answers.{WritesText}
 
 -- the text of what there is, or the number of an error and the room as it was where there is nothing

@@ -11,7 +11,10 @@
 //! };
 //! let mut sum = FlatInstruction::default();
 //! let mut shortest = FlatBytes::default();
-//! assert_eq!(rt; vex_decode(&all, &[0xC4, 0xE1, 0x70, 0x58, 0xC2], &mut sum), 0);
+//! assert_eq!(rt;
+//!     vex_decode(&all, &[0xC4, 0xE1, 0x70, 0x58, 0xC2], &mut sum),
+//!     0
+//! );
 //! assert_eq!(rt; vex_encode(&sum, &mut shortest), 0);
 //! assert_eq!(rt; (sum.length, shortest.length), (5, 4));
 //! ```

@@ -1,2 +1,3 @@
+mod Computed
 pub mod Opcodes
 pub mod Reading

@@ -1,8 +1,7 @@
-use Rattle.std.proofs.Common.{◌≡◌, ◌≤◌, None}
-use Rattle.vex_decode.specs.Blocked.{blocked}
+use Rattle.std.proofs.Common.{◌≤◌}
 use Rattle.vex_calls.specs.Settings.{settings_of}
-use Rattle.vex_c.specs.Decoding.{AnswersBlocked, HoldsFirst}
-use Rattle.vex_c.proofs.Filled.{filled, filled-exactly, Filled}
+use Rattle.vex_c.specs.Decoding.{AnswersBlocked}
+use Rattle.vex_c.proofs.Filled.{filled}
 use Rattle.vex_c.proofs.Decoded.{begun, ends}
 use Rattle.vex_c.proofs.decoding.vex_decode.Goals as goal
 

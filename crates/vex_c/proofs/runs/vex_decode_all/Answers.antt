@@ -1,4 +1,4 @@
-use Rattle.std.proofs.Common.{◌≡◌, ◌+◌, ap, arith, set, subst, sym, ◌∙◌}
+use Rattle.std.proofs.Common.{◌+◌, ap, arith, set, subst, sym, ◌∙◌}
 use Rattle.std.proofs.lemmas.List.{take_rest}
 use Rattle.vex_calls.specs.Errors.{error_number}
 use Rattle.vex_c.specs.Runs.{HoldsRun}

@@ -1,4 +1,4 @@
-use Rattle.std.proofs.Common.{◌≡◌, None, Some, Option, Bool, List, ℕ, refl, sym}
+use Rattle.std.proofs.Common.{◌≡◌, None, Some, Option, Bool, List, ℕ, refl}
 use Rattle.std.specs.Str.{IsUtf8}
 use Rattle.x86_uarch.specs.Profiles.{profile_of}
 use Rattle.vex_c.proofs.Named.{profile_text}

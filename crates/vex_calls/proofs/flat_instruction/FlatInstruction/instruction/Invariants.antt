@@ -1,5 +1,4 @@
-use Rattle.std.proofs.Common.{◌≡◌, Some, take, length}
-use Rattle.vex_calls.specs.Operands.{operands_of}
+use Rattle.std.proofs.Common.{take}
 use Rattle.vex_calls.proofs.Reading.{Read}
 use Rattle.vex_calls.proofs.flat_instruction.FlatInstruction.instruction.Given as goal
 
