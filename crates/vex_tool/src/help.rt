@@ -1,6 +1,5 @@
 //! What `--help`, `-h` and `--version` are answered with.
 
-
 use vex_lines::Words;
 
 /// The version of the program, as the file VERSION at the top has it, and the logic that the program is proved in, as
