@@ -1,6 +1,5 @@
 -- The lines of texts that are assembled.
-use Rattle.std.proofs.Common.{◌≡◌, ℕ, Bool, List, true, Option, Some, None, Err, codes, sym, ap, refl, ◌∙◌, ◌≤◌, length}
-use Rattle.std.proofs.Common.{take}
+use Rattle.std.proofs.Common.{◌≡◌, ℕ, Bool, List, true, Option, Some, None, Err, codes, sym, ap, refl, ◌∙◌}
 use Rattle.x86_operand.specs.Meaning.{Meaning, Decoded}
 use Rattle.x86_operand.specs.Range.{IsMeaning}
 use Rattle.x86_permit.specs.Permission.{permits}
@@ -15,7 +14,8 @@ use Rattle.vex_asm.specs.Laws.{MeaningOfLine}
 use Rattle.vex_asm.specs.Line.{meaning_of}
 use Rattle.vex_lines.specs.AsmLine.{asm_line, bytes_line, meaning_line}
 use Rattle.vex_lines.specs.ErrorLine.{error_line}
-use Rattle.vex_lines.specs.Laws.{LineOfSpelling, LineOfText, LineOfNoText, ResultAssembles}
+use Rattle.vex_lines.specs.Laws.{LineOfText, LineOfNoText, ResultAssembles}
+use Rattle.vex_lines.specs.ResultLine.{instruction_line, result_line}
 
 -- a line that writes a meaning
 pub line-text : MeaningOfLine → LineOfText
@@ -58,16 +58,16 @@ line-assembled texts settings line read bytes permitted h p =
     ∙ ap (bytes_line (permits settings read.meaning.evex read.meaning.opcode)) h.canonical)
 
 -- the text of a meaning that was decoded, as its result line has it
-pub result-assembles : LineOfSpelling → LineOfText
+pub result-assembles : LineOfText
     → (settings : List Bool) (bytes : List ℕ) (n : ℕ) (m : Meaning) (canonical : List ℕ)
-    → n ≤ length bytes → Spells (take n bytes) m → permits settings m.evex m.opcode ≡ true → canon m ≡ Some canonical
-    → IsMeaning m
+    → result_line settings bytes ≡ instruction_line n m canonical
+    → permits settings m.evex m.opcode ≡ true → canon m ≡ Some canonical → IsMeaning m
     → ResultAssembles settings bytes
-result-assembles lines texts settings bytes n m canonical within spells permitted is in_range = λ begun. record {
+result-assembles texts settings bytes n m canonical result permitted is in_range = λ begun. record {
   n = n;
   meaning = m;
   canonical = canonical;
-  result = lines settings bytes n m canonical begun within spells is;
+  result = result;
   assembles = λ line same.
       texts settings line m (record { in_range = in_range; text = sym same })
       ∙ ap (λ b. bytes_line b (canon m)) permitted

@@ -150,14 +150,14 @@ unfolding generated greatest exists table steps form_row groups has_groups mark_
 second_generated = refl
 
 made_one : made 1 ≡ codes "made 1 ok 1 read 5 short 4 sum 653\n"
-unfolding made total generated greatest recoding digits walk walk_form entry_of has_key table steps form_row groups
+unfolding made total generated greatest recoding decode digits walk walk_form entry_of has_key table steps form_row groups
     has_groups mark_of opcode_of has_imm permits opcode_condition slots index_bank gathers size_of sizes v_rule gives
     canon rows choices exists standard candidate shortest_in same_meaning same_operands same_operand same_register
     same_bank same_index same_address same_opcode opcode_number
 made_one = refl
 
 made_two : made 2 ≡ codes "made 2 ok 2 read 10 short 8 sum 1306\n"
-unfolding made total generated greatest recoding digits walk walk_form entry_of has_key table steps form_row groups
+unfolding made total generated greatest recoding decode digits walk walk_form entry_of has_key table steps form_row groups
     has_groups mark_of opcode_of has_imm permits opcode_condition slots index_bank gathers size_of sizes v_rule gives
     canon rows choices exists standard candidate shortest_in same_meaning same_operands same_operand same_register
     same_bank same_index same_address same_opcode opcode_number

@@ -1,12 +1,16 @@
 -- The greatest reg field of a row, field by field, and the totals, spelling by spelling.
 use Rattle.std.proofs.lemmas.Nat.{mod_below}
 use Rattle.std.proofs.Common.{◌≡◌, ℕ, suc, ◌+◌, ◌-◌, ◌/◌, ◌%◌, ◌<◌, ◌≤◌, Bool, true, false, Option, Some, None, sym, ap}
-use Rattle.std.proofs.Common.{subst, ◌∙◌, refl, arith, if◌then◌else◌, List, length, slice_get, sum}
+use Rattle.std.proofs.Common.{subst, ◌∙◌, refl, arith, if◌then◌else◌, List, length, slice_get, sum, Result}
+use Rattle.x86_operand.specs.declared.error.DecodeError.{DecodeError}
+use Rattle.x86_operand.specs.Meaning.{Decoded}
+use Rattle.x86_settings.specs.Bits.{all_bits}
 use Rattle.vex_rows.specs.declared.entry.Entry.{Entry}
 use Rattle.vex_rows.specs.Table.{table}
+use Rattle.vex_encode.specs.Recode.{recoded}
 use Rattle.vex_lines.specs.declared.make_line.Totals.{Totals}
 use Rattle.vex_lines.specs.Generator.{generated, greatest, has_row, made, one_of, read_of, recoding, short_of}
-use Rattle.vex_lines.specs.Generator.{spelling_of, sum_of, total}
+use Rattle.vex_lines.specs.Generator.{recoding_of, spelling_of, sum_of, total}
 use Rattle.vex_lines.specs.Internal.Totals.{IsTotals, line_of}
 
 one-less : (above : ℕ) → above < 8 → 8 - above ≡ suc (7 - above)
@@ -57,6 +61,13 @@ pub generated-at : (i count : ℕ) (entry : Entry) → count ≡ length table �
 unfolding generated
 generated-at i count entry is at =
     ap (λ e. spelling_of e (i / count)) (sym at) ∙ ap (λ n. spelling_of (slice_get table (i % n)) (i / n)) is
+
+-- a recoding under all settings
+pub recoding-is : (settings : List Bool) → settings ≡ all_bits → (bytes : List ℕ)
+    (read : Result (Decoded × List ℕ) DecodeError) → read ≡ recoded settings bytes
+    → recoding_of read ≡ recoding bytes
+unfolding recoding
+recoding-is settings all bytes read is = ap recoding_of (is ∙ ap (λ s. recoded s bytes) all)
 
 -- one spelling more
 total-more : (f : Option (ℕ × List ℕ) → ℕ) (i : ℕ) → total f (i + 1) ≡ total f i + f (recoding (generated i))

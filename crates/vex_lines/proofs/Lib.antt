@@ -11,7 +11,7 @@ pub mod NoteLinesLemmas
 pub mod RunLemmas
 pub mod RunClauses
 pub mod Texts
-pub mod Results
+pub mod ResultLineLemmas
 pub mod Assembled
 pub mod CountLemmas
 pub mod GeneratorLemmas

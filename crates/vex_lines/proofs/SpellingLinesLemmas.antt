@@ -1,22 +1,16 @@
 -- The lines of all spellings: from one spelling of a meaning to the next, and of what a decode answers.
-use Rattle.std.proofs.Common.{◌≡◌, ℕ, ◌+◌, ◌<◌, ◌≤◌, List, [], ◌∷◌, ◌++◌, length, take, Option, Some, None, sym, ap}
+use Rattle.std.proofs.Common.{◌≡◌, ℕ, ◌+◌, ◌<◌, List, [], ◌∷◌, ◌++◌, length, Option, Some, None, sym, ap}
 use Rattle.std.proofs.Common.{◌∙◌, arith}
-use Rattle.std.specs.Prelude.{Bool, flat_map}
+use Rattle.std.specs.Prelude.{Bool, Result, flat_map}
 use Rattle.std.specs.Io.KnownBytes.{Appends}
 use Rattle.std.proofs.lemmas.List.{append-nil, append_assoc}
 use Rattle.x86_operand.specs.declared.error.DecodeError.{DecodeError}
-use Rattle.x86_operand.specs.Errors.{decode_error_name}
-use Rattle.x86_operand.specs.Meaning.{Meaning}
-use Rattle.vex_decode.specs.Spelling.{Spells}
-use Rattle.vex_decode.specs.Blocked.{blocked}
-use Rattle.vex_decode.specs.Laws.{SpellingIsRead}
+use Rattle.x86_operand.specs.Meaning.{Meaning, Decoded}
+use Rattle.vex_decode.specs.Decode.{decode}
 use Rattle.vex_list.specs.AllSpellings.{all_spellings, spellings_after, spellings_from}
 use Rattle.vex_lines.specs.Ends.{AppendsFront}
-use Rattle.vex_lines.specs.ErrorLine.{error_line}
-use Rattle.vex_lines.specs.SpellingLines.{lines_of_meaning, spelling_line, spelling_lines, spellings_of_reading}
-use Rattle.vex_lines.specs.SpellingLines.{spellings_unless_blocked}
+use Rattle.vex_lines.specs.SpellingLines.{spelling_line, spelling_lines, spellings_of}
 use Rattle.vex_lines.proofs.FeedLemmas.{Told}
-use Rattle.vex_lines.proofs.Results.{walked}
 use Rattle.vex_lines.proofs.WrittenLines.{Wrote, Wrote-fault, Wrote-none, Wrote-step}
 
 -- ---- from one spelling to the next
@@ -73,18 +67,7 @@ up_to-end m next first now h is = rw (h.split ∙ ap (λ o. h.done ++ spellings_
 
 -- ---- what a decode answers
 
--- bytes that an error blocks
-pub spellings-refused : (settings : List Bool) (bytes : List ℕ) (error : DecodeError) (n : ℕ)
-    → blocked settings bytes ≡ Some (error, n)
-    → spelling_lines settings bytes ≡ error_line (decode_error_name error)
+pub spellings-are : (settings : List Bool) (bytes : List ℕ) (first : Result Decoded DecodeError)
+    → first ≡ decode settings bytes → spelling_lines settings bytes ≡ spellings_of first
 unfolding spelling_lines
-spellings-refused settings bytes error n h = ap (spellings_unless_blocked bytes) h
-
--- bytes that a permitted spelling begins
-pub spellings-begun : SpellingIsRead → (settings : List Bool) (bytes : List ℕ) (n : ℕ) (m : Meaning)
-    → blocked settings bytes ≡ None → n ≤ length bytes → Spells (take n bytes) m
-    → spelling_lines settings bytes ≡ lines_of_meaning m
-unfolding spelling_lines
-spellings-begun law settings bytes n m begun within spells =
-    ap (spellings_unless_blocked bytes) begun ∙ ap spellings_of_reading (walked law bytes n m within spells)
-    ∙ ap lines_of_meaning (sym spells.by.means)
+spellings-are settings bytes first is = ap spellings_of (sym is)

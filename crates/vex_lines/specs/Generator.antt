@@ -1,11 +1,11 @@
 -- The spellings that `make` generates, and the line that sums up how they are recoded.
 use Rattle.std.specs.Prelude.{ℕ, zero, suc, ◌+◌, ◌*◌, ◌/◌, ◌%◌, ◌==◌, Bool, true, false, not, ◌&&◌, List, [], ◌∷◌, ◌++◌}
-use Rattle.std.specs.Prelude.{length, codes, decimal, slice_get, unwrap_or, Option, Some, None, Ok, Err, if◌then◌else◌}
+use Rattle.std.specs.Prelude.{length, codes, decimal, slice_get, unwrap_or, Option, Some, None, Result, Ok, Err, if◌then◌else◌}
 use Rattle.std.specs.List.{sum}
 use Rattle.x86_operand.specs.declared.error.DecodeError.{DecodeError}
+use Rattle.x86_operand.specs.Meaning.{Decoded}
 use Rattle.x86_settings.specs.Bits.{all_bits}
 use Rattle.x86_address.specs.Bytes.{bit}
-use Rattle.x86_address.specs.Reading.{Reading}
 use Rattle.vex_rows.specs.declared.entry.Entry.{Entry}
 use Rattle.vex_rows.specs.declared.entry.Rule.{Rule}
 use Rattle.vex_rows.specs.declared.entry.Rule.TheVariants.{Any, Zero, One}
@@ -17,15 +17,11 @@ use Rattle.vex_rows.specs.Table.{table}
 use Rattle.vex_forms.specs.declared.slot.VvvvRule.{VvvvRule}
 use Rattle.vex_forms.specs.declared.slot.VvvvRule.TheVariants as vvvv
 use Rattle.vex_forms.specs.Fields.{Fields}
-use Rattle.vex_forms.specs.FormWalk.{taken}
 use Rattle.vex_forms.specs.Layout.{may_be, row_for}
 use Rattle.vex_forms.specs.Slots.{v_rule}
 use Rattle.vex_forms.specs.Written.{imm_bytes}
 use Rattle.vex_decode.specs.Fields.{C4, prefix_bytes}
-use Rattle.vex_decode.specs.Spelling.{Syntax, meant}
-use Rattle.vex_decode.specs.Walk.{walk}
-use Rattle.vex_decode.specs.Blocked.{blocked}
-use Rattle.vex_encode.specs.Canon.{canon}
+use Rattle.vex_encode.specs.Recode.{recoded}
 
 -- the bit of a number that has this weight
 abbrev pub bit_of : ℕ → ℕ → Bool
@@ -125,19 +121,14 @@ spelling_of (Some entry) t =
 unfoldable pub generated : ℕ → List ℕ
 generated i = spelling_of (slice_get table (i % length table)) (i / length table)
 
--- the length read, and the canonical bytes, of what a decode has read of some bytes
-abbrev pub recoding_of : List ℕ → Reading (Row × Syntax) → Option (ℕ × List ℕ)
-recoding_of bytes (Ok read) = Some (taken bytes read.1, unwrap_or (canon (meant read.0.0 read.0.1)) [])
-recoding_of bytes (Err error) = None
-
--- the same of bytes that are not blocked
-abbrev pub recoding_unless : List ℕ → Option (DecodeError × ℕ) → Option (ℕ × List ℕ)
-recoding_unless bytes None = recoding_of bytes (walk bytes)
-recoding_unless bytes (Some error) = None
+-- the length read and the canonical bytes that a recoding answers, where it answers an instruction
+abbrev pub recoding_of : Result (Decoded × List ℕ) DecodeError → Option (ℕ × List ℕ)
+recoding_of (Ok read) = Some (read.0.len, read.1)
+recoding_of (Err error) = None
 
 -- the length and the canonical bytes of the spelling that begins some bytes, where all settings permit it
 unfoldable pub recoding : List ℕ → Option (ℕ × List ℕ)
-recoding bytes = recoding_unless bytes (blocked all_bits bytes)
+recoding bytes = recoding_of (recoded all_bits bytes)
 
 -- what a recoding counts for: one, its length read, the length of its canonical bytes, and their sum
 abbrev pub one_of : Option (ℕ × List ℕ) → ℕ

@@ -1,16 +1,13 @@
 -- The lines of the notes on some bytes.
-use Rattle.std.specs.Prelude.{ℕ, Bool, List, ◌++◌, codes, decimal, take, flat_map, Option, Some, None, Ok, Err}
+use Rattle.std.specs.Prelude.{ℕ, Bool, List, ◌++◌, codes, decimal, take, flat_map, Option, Some, None, Result, Ok, Err}
 use Rattle.x86_opcode.specs.Name.{opcode_name}
 use Rattle.x86_operand.specs.declared.error.DecodeError.{DecodeError}
+use Rattle.x86_operand.specs.Meaning.{Decoded}
 use Rattle.x86_operand.specs.declared.note.InnerDescription.{InnerDescription}
 use Rattle.x86_operand.specs.declared.note.InnerDescription.TheVariants.{Misc, RegisterNumber, Opcode, Boundary}
 use Rattle.x86_operand.specs.Note.{note_text}
-use Rattle.x86_address.specs.Reading.{Reading}
-use Rattle.vex_rows.specs.Row.{Row}
-use Rattle.vex_forms.specs.FormWalk.{taken}
-use Rattle.vex_decode.specs.Spelling.{Syntax}
-use Rattle.vex_decode.specs.Walk.{walk}
 use Rattle.vex_decode.specs.Blocked.{blocked}
+use Rattle.vex_decode.specs.Decode.{decode}
 use Rattle.vex_decode.specs.Notes.{NoteAt, notes}
 use Rattle.vex_asm.specs.Text.{register_text}
 use Rattle.vex_lines.specs.ResultLine.{result_line}
@@ -29,19 +26,15 @@ note_line note =
     codes "note " ++ decimal note.0 ++ codes " " ++ decimal note.1 ++ codes " " ++ decimal note.2.id ++ codes " "
     ++ description_text note.2.desc ++ codes "\n"
 
--- how many bytes a reading has taken
-abbrev pub number_read : List ℕ → Reading (Row × Syntax) → ℕ
-number_read bytes (Ok read) = taken bytes read.1
-number_read bytes (Err error) = taken bytes error.1
-
--- how many bytes a decode takes: those after which an error blocks it, or else those of the spelling
-abbrev pub number_taken : List ℕ → Option (DecodeError × ℕ) → ℕ
-number_taken bytes (Some error) = error.1
-number_taken bytes None = number_read bytes (walk bytes)
+-- how many bytes a decode takes: those after which an error blocks them, or else those of the instruction
+abbrev pub number_taken : Option (DecodeError × ℕ) → Result Decoded DecodeError → ℕ
+number_taken (Some error) first = error.1
+number_taken None (Ok decoded) = decoded.len
+number_taken None (Err error) = 0
 
 -- the bytes that a decode of some bytes takes under settings
 unfoldable pub bytes_taken : List Bool → List ℕ → List ℕ
-bytes_taken settings bytes = take (number_taken bytes (blocked settings bytes)) bytes
+bytes_taken settings bytes = take (number_taken (blocked settings bytes) (decode settings bytes)) bytes
 
 -- a line for each note on the bytes that a decode takes, and then the result line
 abbrev pub note_lines : List Bool → List ℕ → List ℕ

@@ -1,23 +1,12 @@
-//! What holds of all result lines, lines of texts and recodings, each law as the contract of a function that does
-//! nothing, but for calls that it follows from.
+//! What holds of all lines of texts and result lines, each law as the contract of a function that does nothing, but for
+//! calls that it follows from.
 
-ghost use Rattle.vex_lines.specs.Laws.{LineOfError, LineOfNoText, LineOfSpelling, LineOfText, RecodingOfError};
-ghost use Rattle.vex_lines.specs.Laws.{RecodingOfSpelling, ResultAssembles};
+ghost use Rattle.vex_lines.specs.Laws.{LineOfNoText, LineOfText, ResultAssembles};
 
 use vex_asm::laws::meaning_of_line;
-use vex_decode::laws::spelling_is_read;
 use vex_encode::recode;
 use x86_operand::laws::instruction_in_range;
 use x86_settings::InstDecoder;
-
-/// The result line of some bytes is that of the length, the meaning and the canonical bytes of the spelling that begins
-/// them, or that of the error that blocks them.
-pub fn result_lines()
-    ensures spelling { LineOfSpelling }
-    ensures error { LineOfError }
-{
-    spelling_is_read();
-}
 
 /// The line of `asm` for a line that writes a meaning is that of its canonical bytes, or of `NoSpelling`, or, where its
 /// opcode isn't permitted, of `InvalidOpcode`; and for a line that writes none that of `BadText`.
@@ -33,19 +22,9 @@ pub fn assembled_lines()
 pub fn result_line_assembles(settings: &InstDecoder, bytes: &[u8])
     ensures { ResultAssembles settings.now bytes.now }
 {
-    result_lines();
     assembled_lines();
     match recode(settings, bytes) {
         Ok((instruction, _)) => instruction_in_range(instruction),
         Err(_) => {}
     }
-}
-
-/// The recoding of some bytes is the length and the canonical bytes of the spelling that begins them, and none where
-/// they are blocked.
-pub fn recodings()
-    ensures spelling { RecodingOfSpelling }
-    ensures error { RecodingOfError }
-{
-    spelling_is_read();
 }

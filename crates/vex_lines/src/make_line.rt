@@ -9,7 +9,6 @@ ghost use Rattle.vex_lines.specs.Internal.Totals.{IsTotals, line_of};
 
 use crate::ends::{Failed, Sink};
 use crate::generator::generated;
-use crate::laws::recodings;
 use crate::line_text::LineText;
 use vex_asm::{MAX_TEXT, append_number};
 use vex_encode::{Spelling, recode};
@@ -30,8 +29,6 @@ fn recoding(bytes: &[u8]) -> Option<(u8, Spelling)>
     ensures found { result ≡ recoding bytes.now }
     ensures within { IfSome result (λ found. found.0 ≤ length bytes.now) }
 {
-    // The laws of recodings.
-    recodings();
     match recode(&InstDecoder::default(), bytes) {
         Ok((instruction, spelling)) => Some((instruction.len(), spelling)),
         Err(_) => None,

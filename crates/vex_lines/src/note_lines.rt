@@ -1,18 +1,17 @@
 //! The notes on the bytes of some code.
 
-ghost use Rattle.std.specs.Prelude.{◌≡◌, ℕ, IfErr, IfOk, Some, flat_map};
-ghost use Rattle.vex_decode.specs.Blocked.{blocked};
-ghost use Rattle.vex_decode.specs.Laws.{Decodes};
+ghost use Rattle.std.specs.Prelude.{◌≡◌, ℕ, List, IfOk, flat_map};
+ghost use Rattle.vex_decode.specs.Decode.{decode};
+ghost use Rattle.vex_decode.specs.Spelling.{Spells};
 ghost use Rattle.vex_decode.specs.Notes.{notes};
 ghost use Rattle.vex_lines.specs.Ends.{Writes};
 ghost use Rattle.vex_lines.specs.NoteLines.{bytes_taken, note_line, note_lines};
 
 use crate::ends::{Failed, Sink};
-use crate::laws::result_lines;
 use crate::line_text::{LineText, note_text_line};
 use crate::result_line::{write_instruction, write_refused};
 use vex_decode::Decoder;
-use vex_decode::laws::{blocked_or_begun, reading_is_spelling};
+use vex_decode::laws::decode_answers;
 use x86_operand::{DecodeError, FieldDescription, Instruction};
 use x86_reader::{ListSink, U8Reader};
 use x86_settings::InstDecoder;
@@ -24,12 +23,11 @@ fn list_notes(
     list: &mut ListSink<FieldDescription>,
 ) -> Result<Instruction, DecodeError>
     ensures listed { list.new.kept ≡ notes (bytes_taken settings.now bytes.now) }
-    ensures begun { IfOk result (λ decoded. Decodes settings.now bytes.now decoded.meaning decoded.len) }
-    ensures refused { IfErr result (λ error. (n : ℕ) × (blocked settings.now bytes.now ≡ Some (error, n))) }
+    ensures answer { result ≡ decode settings.now bytes.now }
+    ensures spelled { IfOk result (λ decoded. (front : List ℕ) × Spells front decoded.meaning) }
 {
-    // The laws: a spelling is what a decode takes, and bytes that a permitted one begins are not blocked.
-    reading_is_spelling();
-    blocked_or_begun();
+    // A law: bytes of which a decode answers an instruction are not blocked.
+    decode_answers();
     list.clear();
     let mut words = U8Reader::new(bytes);
     let mut instruction = Instruction::default();
@@ -70,8 +68,6 @@ pub fn write_notes<K: Sink>(
     ensures { Writes result (K.text sink.old) (K.text sink.new) (K.faults sink.old) (K.faults sink.new)
         (note_lines settings.now bytes.now) }
 {
-    // The laws of result lines.
-    result_lines();
     let decoded = list_notes(settings, bytes, list);
     write_note_lines(list, text, sink)?;
     match decoded {

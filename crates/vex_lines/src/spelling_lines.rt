@@ -8,7 +8,6 @@ ghost use Rattle.vex_lines.specs.SpellingLines.{lines_of_meaning, spelling_line,
 use crate::ends::{Failed, Sink};
 use crate::line_text::{LineText, bytes_text, error_text};
 use vex_decode::Decoder;
-use vex_decode::laws::spelling_is_read;
 use vex_list::{first_spelling, spelling_after};
 use x86_operand::Instruction;
 use x86_settings::InstDecoder;
@@ -55,8 +54,6 @@ pub fn write_spellings<K: Sink>(
     ensures { Writes result (K.text sink.old) (K.text sink.new) (K.faults sink.old) (K.faults sink.new)
         (spelling_lines settings.now bytes.now) }
 {
-    // A law: what spells is what a decode reads.
-    spelling_is_read();
     match settings.decode_slice(bytes) {
         Ok(instruction) => write_all_spellings(&instruction, text, sink),
         Err(error) => {

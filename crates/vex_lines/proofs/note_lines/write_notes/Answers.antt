@@ -1,13 +1,12 @@
-use Rattle.std.proofs.Common.{take}
 use Rattle.std.proofs.lemmas.Result.{err_from_is_err_and}
 use Rattle.vex_lines.specs.Ends.Lemmas.{AppendsFront-more}
 use Rattle.vex_lines.proofs.EndsLemmas.{Writes-fault, Writes-then}
+use Rattle.vex_lines.proofs.ResultLineLemmas.{line-decoded}
 use Rattle.vex_lines.proofs.note_lines.write_notes.Goals as goal
 
 pub write_instruction-requires : goal.write_instruction-requires
 write_instruction-requires g c =
-    let begun = rw c.in-Ok.is at c.list_notes-decoded.ensures.begun in
-    (take c.in-Ok.instruction.len c.args.bytes.now, begun.spells)
+    rw c.in-Ok.is at c.list_notes-decoded.ensures.spelled
 
 pub returns-in_err-write_note_lines : goal.returns-in_err-write_note_lines
 returns-in_err-write_note_lines g c =
@@ -18,17 +17,13 @@ returns-in_err-write_note_lines g c =
 pub returns-in-Ok : goal.returns-in-Ok
 returns-in-Ok g c =
     let first = rw c.list_notes-decoded.ensures.listed at c.in_ok-write_note_lines.ensures.appends in
-    let begun = rw c.in-Ok.is at c.list_notes-decoded.ensures.begun in
-    let decoded = c.in-Ok.instruction in
-    let written = c.write_instruction.ensures in
+    let answer = rw c.in-Ok.is at c.list_notes-decoded.ensures.answer in
     Writes-then _ _ _ _ _ _ _ _ _ first c.in_ok-write_note_lines.ensures.quiet
-    (rw (c.result_lines.ensures.spelling c.args.settings.now c.args.bytes.now decoded.len decoded.meaning written.0
-    begun.not_blocked begun.within begun.spells written.1) written.2)
+    (rw (line-decoded _ _ _ answer) c.write_instruction.ensures)
 
 pub returns-in-Err : goal.returns-in-Err
 returns-in-Err g c =
     let first = rw c.list_notes-decoded.ensures.listed at c.in_ok-write_note_lines.ensures.appends in
-    let refused = rw c.in-Err.is at c.list_notes-decoded.ensures.refused in
+    let answer = rw c.in-Err.is at c.list_notes-decoded.ensures.answer in
     Writes-then _ _ _ _ _ _ _ _ _ first c.in_ok-write_note_lines.ensures.quiet
-    (rw (c.result_lines.ensures.error c.args.settings.now c.args.bytes.now c.in-Err.error refused.0 refused.1)
-    c.write_refused.ensures)
+    (rw (line-decoded _ _ _ answer) c.write_refused.ensures)
