@@ -14,8 +14,8 @@ AR ?= ar
 INSTALL ?= install
 PYTHON ?= python3
 
-VERSION := 1.0.0
-SONAME := libvex.so.1
+VERSION := $(shell cat VERSION)
+SONAME := libvex.so.0
 bindir := $(PREFIX)/bin
 libdir := $(PREFIX)/lib
 includedir := $(PREFIX)/include

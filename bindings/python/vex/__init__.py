@@ -7,7 +7,7 @@
 
 What a call refuses is raised as an error with the name of include/vex.h, as `vex.InvalidOpcode`; each is a `vex.Error`.
 The library is looked for at the path of the environment variable LIBVEX, then in out/ of the repository that this file
-is in, and then where the system looks for libvex.so.1.
+is in, and then where the system looks for libvex.so.0.
 """
 import ctypes
 import os
@@ -136,7 +136,7 @@ def _raise(number):
 
 def _load():
     here = pathlib.Path(__file__).resolve().parents[3] / "out" / "libvex.so"
-    library = ctypes.CDLL(os.environ.get("LIBVEX") or (str(here) if here.exists() else "libvex.so.1"))
+    library = ctypes.CDLL(os.environ.get("LIBVEX") or (str(here) if here.exists() else "libvex.so.0"))
     settings, instruction, encoding = POINTER(Settings), POINTER(Instruction), POINTER(_Encoding)
     for name, arguments in {
         "vex_settings_named": [c_char_p, c_size_t, settings],

@@ -15,7 +15,7 @@ use vex_calls::{CallError, opcode_of};
 use x86_operand::Opcode;
 
 /// The version of the library, and the toolchain and the logic that it is proved with.
-pub const VERSION: &str = "vex 1.0.0, rattle-kit-13f logic dac8208d650f15bf";
+pub const VERSION: &str = "vex 0.9.0, rattle-kit-13f logic dac8208d650f15bf";
 
 /// Writes the name of an opcode and a 0 behind it: 0, or the number of an error, and the room is as it was.
 /// `NoSuchNumber` comes exactly where no opcode has the number, and else `NoRoom` exactly where name and 0 don't fit.

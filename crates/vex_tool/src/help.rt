@@ -22,7 +22,7 @@ It reads lines of hex digits from standard input.
                echo 'C5 F8 77' | vex_tool spellings default
   emulate P  what the integer vector instructions of each line change, on a machine that starts anew for each line
                echo 'C5 F1 FC C2' | vex_tool emulate haswell
-  least      which settings the instructions of each line need, and which microarchitectures have them
+  least      which of the decoder's settings the instructions of each line need, and which profiles have them
                echo 'C5 FA 10 07 C4 E3 7B F0 C1 05' | vex_tool least
   make N     one line on how N generated spellings are recoded, N from 1 to 1,000,000
                vex_tool make 1000
@@ -32,6 +32,8 @@ It reads lines of hex digits from standard input.
 P names settings: default (everything is permitted), minimal (no VEX instruction is), or a microarchitecture:
   k8 k10 bulldozer piledriver steamroller excavator zen zen2 zen3 zen4 zen5
   netburst core penryn nehalem westmere sandybridge ivybridge haswell haswell_ex broadwell skylake kabylake
+Settings and profiles are those of the decoder yaxpeax-x86, and not what a processor runs: sandybridge takes VPADDD on
+ymm registers, which is AVX2 and faults there.
 
   -h, --help  this text
   --version   the version, and the logic that the program is proved in
