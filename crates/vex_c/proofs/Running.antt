@@ -8,8 +8,9 @@ use Rattle.std.proofs.lemmas.Grind.{flat_map-append}
 use Rattle.std.proofs.Math.Seq.{drop-cons, set-append_seam}
 use Rattle.x86_operand.specs.declared.error.DecodeError.{DecodeError}
 use Rattle.x86_operand.specs.Meaning.{Decoded}
+use Rattle.vex_decode.specs.Decode.{decode}
 use Rattle.vex_encode.specs.declared.sweeper.SweepEnd.TheVariants.{End, Stopped}
-use Rattle.vex_encode.specs.Sweep.{Swept, SweptItem, first_of_bytes, item_at, joined, onto, swept, swept_from}
+use Rattle.vex_encode.specs.Sweep.{Swept, SweptItem, item_at, joined, onto, swept, swept_from}
 use Rattle.vex_encode.specs.Sweep.Lemmas.{from-step, from-stop}
 use Rattle.vex_calls.specs.declared.flat_instruction.FlatInstruction.{FlatInstruction}
 use Rattle.vex_calls.specs.Errors.{decode_error, error_number}
@@ -61,7 +62,7 @@ module _ (settings : List Bool) (bytes : List ℕ) (old : List FlatInstruction) 
   }
 
   module _ (now : List FlatInstruction) (count place : ℕ) (so_far : Running settings bytes old now count place) where
-    pub Running-step : (decoded : Decoded) → first_of_bytes settings (drop place bytes) ≡ Ok decoded → 1 ≤ decoded.len
+    pub Running-step : (decoded : Decoded) → decode settings (drop place bytes) ≡ Ok decoded → 1 ≤ decoded.len
         → decoded.len ≤ length (drop place bytes) → count < length old
         → Running settings bytes old (set now count (flat_instruction decoded)) (count + 1) (place + decoded.len)
     Running-step decoded first some fits room =
@@ -135,7 +136,7 @@ module _ (settings : List Bool) (bytes : List ℕ) (old : List FlatInstruction) 
         (more_number (length so_far.items) (length old) 0 (omega (arith, so_far.counted, room)))
 
     -- an error blocks the rest
-    pub Running-stop : (error : DecodeError) → first_of_bytes settings (drop place bytes) ≡ Err error
+    pub Running-stop : (error : DecodeError) → decode settings (drop place bytes) ≡ Err error
         → place < length bytes → count < length old
         → HoldsRun settings bytes old now (record { instructions = count; bytes = place })
         (error_number (decode_error error))

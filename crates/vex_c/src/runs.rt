@@ -1,14 +1,14 @@
 //! One instruction after another.
 
 ghost use Rattle.std.specs.Prelude.{◌≡◌, ◌≤◌, ℕ, Ok, Err, Some, IfOk, IfErr, length};
-ghost use Rattle.vex_encode.specs.Sweep.{first_of_bytes};
+ghost use Rattle.vex_decode.specs.Decode.{decode};
 ghost use Rattle.vex_calls.specs.Errors.{decode_error};
 ghost use Rattle.vex_calls.specs.Settings.{settings_of};
 ghost use Rattle.vex_c.specs.Runs.{HoldsRun};
 
 use vex_calls::{CallError, FlatInstruction, FlatSettings};
 use vex_decode::Decoder;
-use vex_decode::laws::{prefix_free, reading_is_spelling};
+use vex_decode::laws::prefix_free;
 use x86_operand::{DecodeError, Instruction};
 use x86_settings::InstDecoder;
 
@@ -24,14 +24,13 @@ pub struct Taken {
 
 /// The instruction at the front of bytes, or the error that blocks them.
 fn first(settings: &InstDecoder, bytes: &[u8]) -> Result<Instruction, DecodeError>
-    ensures first { IfOk result (λ decoded. first_of_bytes settings.now bytes.now ≡ Ok decoded) }
+    ensures first { IfOk result (λ decoded. decode settings.now bytes.now ≡ Ok decoded) }
     ensures some { IfOk result (λ decoded. 1 ≤ decoded.len) }
     ensures within { IfOk result (λ decoded. decoded.len ≤ length bytes.now) }
-    ensures blocked { IfErr result (λ error. first_of_bytes settings.now bytes.now ≡ Err error) }
+    ensures blocked { IfErr result (λ error. decode settings.now bytes.now ≡ Err error) }
 {
-    // Laws: a spelling has bytes, and is what a decode takes.
+    // A law: a spelling has bytes.
     prefix_free();
-    reading_is_spelling();
     match settings.decode_slice(bytes) {
         Ok(instruction) => Ok(instruction),
         Err(error) => Err(error),
