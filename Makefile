@@ -60,7 +60,7 @@ check: all
 	CC='$(CC)' CFLAGS='$(CFLAGS)' PYTHON='$(PYTHON)' tools/check_library
 
 out/vex_tool: $(SOURCES) vex_tool
-	./vex_tool make 1 >/dev/null
+	./vex_tool --prove
 	touch $@
 
 install: all out/vex_tool
