@@ -1,4 +1,4 @@
-"""What the package answers: worked rows, errors, runs, names, and the layout of each struct."""
+"""What the package answers: examples, errors, runs, names, and the layout of each struct."""
 import ctypes
 import unittest
 
