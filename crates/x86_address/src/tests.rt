@@ -1,11 +1,10 @@
 //! What no clause shows: addresses as the manual's tables have them, and the calls at concrete readers.
 
 ghost use Rattle.std.specs.Prelude.{◌↔◌, ◌≤◌, ◌<◌, ◌/◌, ◌%◌, IsErr};
-ghost use Rattle.x86_address.specs.Bytes.{IsUnit};
 ghost use Rattle.x86_address.specs.Reading.{take_place};
 
 use crate::{
-    read_address, read_imm, read_modrm, read_vector_address, shortest_address,
+    AddressBytes, read_address, read_imm, read_modrm, read_vector_address, shortest_address,
     shortest_scaled_address, shortest_vector_address,
 };
 use std::process::Abort;
@@ -464,11 +463,20 @@ fn scaled<'a>(factor: u8, disp: i32, shortest: &'a [u8]) -> ScaledCase<'a> {
     }
 }
 
-fn is_written_in_units(rt: &impl Abort, case: &ScaledCase)
-    requires { IsUnit case.now.factor }
-{
+/// The shortest bytes of an address in units of so many bytes, where there are such units.
+fn shortest_in_units(from: &Address, factor: u8) -> Option<AddressBytes> {
+    match factor {
+        1 => shortest_scaled_address(from, 1),
+        16 => shortest_scaled_address(from, 16),
+        32 => shortest_scaled_address(from, 32),
+        64 => shortest_scaled_address(from, 64),
+        _ => None,
+    }
+}
+
+fn is_written_in_units(rt: &impl Abort, case: &ScaledCase) {
     let from_rax = address(general(0), None, case.disp);
-    let found = shortest_scaled_address(&from_rax, case.factor).expect(rt, "no bytes spell it");
+    let found = shortest_in_units(&from_rax, case.factor).expect(rt, "no bytes spell it");
     assert_eq!(rt;
         found.bytes.as_slice(),
         case.shortest,
